@@ -1,6 +1,6 @@
 -- The payload of each call: its numbers in order, and their bytes.
-use Rattle.std.specs.Prelude.{ℕ, ◌+◌, List, [], ◌∷◌, length, map, sum, Option, Some, None}
-use Rattle.std.specs.List.{flat_map}
+use Rattle.std.specs.Prelude.{ℕ, ◌+◌, List, [], ◌∷◌, length, Option, Some, None}
+use Rattle.std.specs.List.{flat_map, sum_by}
 use Rattle.must_call.specs.declared.status.Status3.{Status3}
 use Rattle.must_call.specs.declared.call.Call.{Call}
 use Rattle.must_call.specs.declared.call.Body.{Body}
@@ -31,4 +31,4 @@ record_length call = 6 + length (payload_text call.body)
 
 -- the offset behind the records of these calls, the first of which stands behind the 17 bytes of the header
 abbrev pub offset_behind : List Call → ℕ
-offset_behind calls = 17 + sum (map record_length calls)
+offset_behind calls = 17 + sum_by record_length calls

@@ -40,6 +40,10 @@ abbrev pub payload_of : (k : Kind) → Values (inputs k) → Option (Values (out
 payload_of k v None = text (inputs k) v
 payload_of k v (Some o) = text (inputs k) v ++ text (outputs k) o
 
+-- the end record of a stream with so many calls
+abbrev pub end_text : ℕ → List ℕ
+end_text calls = (0 ∷ 0 ∷ u32 4) ++ u32 calls
+
 -- the bytes are the record of the call
 pub record Spells (call : Call) (bytes : List ℕ) : Type 0 where
   pub inputs_are : Values (inputs (kind_of call.body))
@@ -54,3 +58,7 @@ pub record Spells (call : Call) (bytes : List ℕ) : Type 0 where
 -- the version knows the kind of the call
 abbrev pub IsKnown : ℕ → Call → Type 0
 IsKnown version call = kind_at version (number_of (kind_of call.body)) ≡ Some (kind_of call.body)
+
+-- a record may have the call
+abbrev pub HasSpelling : Call → Type 0
+HasSpelling call = (bytes : List ℕ) × Spells call bytes
