@@ -1,0 +1,11 @@
+pub mod Names
+pub mod Fields
+pub mod Values
+pub mod Spelling
+pub mod Payload
+pub mod Judging
+pub mod Decoding
+pub mod Record
+pub mod Stream
+pub mod StreamLaws
+pub mod Reader
