@@ -1,5 +1,5 @@
 -- The table of rules (docs/RULES.md): the place, the code, the text and the usual severity of each.
-use Rattle.std.specs.Prelude.{ℕ, List, [], ◌∷◌, codes}
+use Rattle.std.specs.Prelude.{ℕ, List, [], ◌∷◌, codes, map}
 use Rattle.must_find.specs.declared.rule.Rule.{Rule}
 use Rattle.must_find.specs.declared.rule.Rule.TheVariants.{I1, I2, I3, A1, A2, A3, A4, A5, A6, A7, H1, H2, H3, H4, H5, T1, T2, T3, S1, M1, M2, M3, M4, N1, C1, C2, C3, C4, C5, C6, C7, C8, W1, W2, L1, L2, L3, L4, L5, X1}
 use Rattle.must_find.specs.declared.severity.Severity.{Severity}
@@ -178,3 +178,7 @@ usual_severity L3 = Warning
 usual_severity L4 = Warning
 usual_severity L5 = Warning
 usual_severity X1 = Off
+
+-- the usual severities in the order of the table
+abbrev pub usual_severities : List Severity
+usual_severities = map usual_severity all_rules

@@ -1,9 +1,8 @@
 //! The severity of each rule.
 
 ghost use Rattle.std.specs.Prelude.{◌≡◌};
-ghost use Rattle.must_find.specs.Rules.{usual_severity};
+ghost use Rattle.must_find.specs.Rules.{usual_severities};
 ghost use Rattle.must_find.specs.RuleSet.{severity_in};
-ghost use Rattle.must_find.specs.declared.rule.Rule.{Rule};
 
 use crate::rule::Rule;
 use crate::severity::Severity;
@@ -27,7 +26,7 @@ impl Model for RuleSet {
 impl RuleSet {
     /// The severities of docs/RULES.md.
     pub fn usual() -> RuleSet
-        ensures { (rule : Rule) → severity_in result rule ≡ usual_severity rule }
+        ensures { result ≡ usual_severities }
     {
         let mut severities = [Severity::Error; 40];
         severities[usize::from(Rule::N1.place())] = Severity::Warning;

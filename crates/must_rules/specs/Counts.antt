@@ -17,6 +17,10 @@ abbrev pub below_zero : Option ℤ → Option Answer
 below_zero None = None
 below_zero (Some count) = if lt_z count (pos 0) then Some (alone count) else None
 
--- a count below zero; the value is the count
-unfoldable pub negative_count : Call → ℕ → Option Answer
-negative_count call part = at_part 0 (below_zero (count_of call.body)) part
+-- the count of a send or of a receive, where it is below zero
+unfoldable pub count_below_zero : Call → Option Answer
+count_below_zero call = below_zero (count_of call.body)
+
+-- the rule at a part of a call; the value is the count
+abbrev pub negative_count : Call → ℕ → Option Answer
+negative_count call part = at_part 0 (count_below_zero call) part

@@ -1,7 +1,9 @@
 pub mod Run
+pub mod Streams
 pub mod Answer
 pub mod Counts
 pub mod Peers
 pub mod Rows
 pub mod Walk
 pub mod WalkLaws
+pub mod StreamRuns

@@ -30,11 +30,15 @@ abbrev pub outside : (ℤ → Bool) → Option ℕ → ℤ → Option Answer
 outside is_mark None peer = None
 outside is_mark (Some n) peer = if is_mark peer || is_position n peer then None else Some (alone peer)
 
-abbrev pub peer_outside : ℕ → Body → Option Answer
-peer_outside size (Frame frame) = None
-peer_outside size (Point (Send buf count dtype dest tag comm)) = outside is_null (members size comm) dest
-peer_outside size (Point (Recv buf count dtype source tag comm status)) = outside is_null_or_any (members size comm) source
+abbrev pub body_outside : ℕ → Body → Option Answer
+body_outside size (Frame frame) = None
+body_outside size (Point (Send buf count dtype dest tag comm)) = outside is_null (members size comm) dest
+body_outside size (Point (Recv buf count dtype source tag comm status)) = outside is_null_or_any (members size comm) source
 
--- a peer out of range in a run of so many ranks; the value is the peer
-unfoldable pub peer_out_of_range : ℕ → Call → ℕ → Option Answer
-peer_out_of_range size call part = at_part 0 (peer_outside size call.body) part
+-- the peer of a send or of a receive, where it is out of range in a run of so many ranks
+unfoldable pub peer_outside : ℕ → Call → Option Answer
+peer_outside size call = body_outside size call.body
+
+-- the rule at a part of a call; the value is the peer
+abbrev pub peer_out_of_range : ℕ → Call → ℕ → Option Answer
+peer_out_of_range size call part = at_part 0 (peer_outside size call) part

@@ -1,0 +1,5 @@
+pub mod Command
+pub mod Lines
+pub mod Outside
+pub mod Walk
+pub mod Promises

@@ -1,0 +1,219 @@
+-- The promises of the program: what each answer says of the run, and which answer is forced. What is said of a rank's
+-- bytes holds where they are told.
+use Rattle.std.specs.Prelude.{◌≡◌, ◌≢◌, ◌⊎◌, ◌↔◌, ℕ, ◌<◌, Bool, true, false, IsTrue, List, [], length, map, Option, Some, None, slice_get}
+use Rattle.std.specs.Io.KnownBytes.{Appends}
+use Rattle.must_base.specs.Causes.{Rose, AppendsFront}
+use Rattle.must_call.specs.declared.call.Call.{Call}
+use Rattle.must_format.specs.declared.fault.StreamFault.{StreamFault}
+use Rattle.must_format.specs.declared.fault.StreamFault.TheVariants as fault
+use Rattle.must_format.specs.Stream.{Accepted, Refused}
+use Rattle.must_find.specs.declared.finding.Finding.{Finding}
+use Rattle.must_find.specs.Rules.{usual_severities}
+use Rattle.must_find.specs.Report.{shown, report_of}
+use Rattle.must_rules.specs.Run.{Run, Mode, Strict}
+use Rattle.must_rules.specs.Rows.{IsRows}
+use Rattle.must_rules.specs.Streams.{Records}
+use Rattle.must_cli.specs.declared.status.Status.{Status}
+use Rattle.must_cli.specs.declared.status.Status.TheVariants as status
+use Rattle.must_cli.specs.Command.{Command, Check, command}
+use Rattle.must_cli.specs.Outside.{Part, Output, Outside, told_at, IsUnchanged, HasFailed, Puts}
+use Rattle.must_cli.specs.Lines.{usage_line, fault_line, write_line, memory_line}
+
+-- ---- statuses
+
+abbrev pub IsSuccess : Status → Type 0
+IsSuccess status.Clean = Unit {0}
+IsSuccess status.Found = Unit {0}
+IsSuccess status.Usage = ⊥
+IsSuccess status.Malformed = ⊥
+IsSuccess status.Outside = ⊥
+IsSuccess status.Bound = ⊥
+IsSuccess status.NoMemory = ⊥
+
+abbrev pub IsRefusal : Status → Type 0
+IsRefusal status.Clean = ⊥
+IsRefusal status.Found = ⊥
+IsRefusal status.Usage = ⊥
+IsRefusal status.Malformed = Unit {0}
+IsRefusal status.Outside = ⊥
+IsRefusal status.Bound = Unit {0}
+IsRefusal status.NoMemory = ⊥
+
+-- the report has a line of a finding
+abbrev pub is_found : Status → Bool
+is_found status.Clean = false
+is_found status.Found = true
+is_found status.Usage = false
+is_found status.Malformed = false
+is_found status.Outside = false
+is_found status.Bound = false
+is_found status.NoMemory = false
+
+-- the status of a stream's fault
+abbrev pub status_for : StreamFault → Status
+status_for (fault.Malformed at cause) = status.Malformed
+status_for (fault.Bound at limit) = status.Bound
+status_for fault.Read = status.Outside
+status_for fault.NoMemory = status.NoMemory
+
+-- ---- the streams of the run
+
+-- the stream of a rank is complete
+abbrev pub IsAccepted : List (Option (List ℕ)) → ℕ → Type 0
+IsAccepted told rank = (bytes : List ℕ) → told_at told rank ≡ Some bytes → (calls : List Call) × Accepted rank (length told) bytes calls
+
+-- those of all ranks below this one are complete
+abbrev pub AreAccepted : List (Option (List ℕ)) → ℕ → Type 0
+AreAccepted told rank = (lower : ℕ) → lower < rank → IsAccepted told lower
+
+-- the stream of a rank is refused, and this is its first bad place
+abbrev pub IsRefused : List (Option (List ℕ)) → ℕ → StreamFault → Type 0
+IsRefused told rank fault = (bytes : List ℕ) → told_at told rank ≡ Some bytes → Refused rank (length told) bytes fault
+
+-- the bytes of every file are told: these
+abbrev pub AreTold : List (Option (List ℕ)) → List (List ℕ) → Type 0
+AreTold told streams = told ≡ map Some streams
+
+-- ---- reading the streams
+
+-- the run that the streams record, and its rows
+pub record RunRows (streams : List (List ℕ)) (rows : List Finding) : Type 0 where
+  pub run : Run
+  pub records : Records streams run
+  pub are_rows : IsRows run Strict rows
+
+-- Every stream was read to its end and is complete, and these are the rows of the run.
+pub record ReadsRun (told : List (Option (List ℕ))) (parts : List Part) (rows : List Finding) : Type 0 where
+  pub accepted : AreAccepted told (length told)
+  pub read : (rank : ℕ) (bytes : List ℕ) (part : Part) → told_at told rank ≡ Some bytes → slice_get parts rank ≡ Some part → part.left ≡ Some []
+  pub of_run : (streams : List (List ℕ)) → AreTold told streams → RunRows streams rows
+
+-- why a rank stops a check: its stream is refused at its first bad place, or a read of it failed
+abbrev pub StopsAt : List (Option (List ℕ)) → List Part → ℕ → StreamFault → Type 0
+StopsAt told parts rank (fault.Malformed at cause) = IsRefused told rank (fault.Malformed at cause)
+StopsAt told parts rank (fault.Bound at limit) = IsRefused told rank (fault.Bound at limit)
+StopsAt told parts rank fault.Read = (part : Part) × (slice_get parts rank ≡ Some part) × HasFailed part
+StopsAt told parts rank fault.NoMemory = ⊥
+
+-- A rank stops the check: the streams of all lower ranks are complete.
+pub record Stops (told : List (Option (List ℕ))) (parts : List Part) (rank : ℕ) (fault : StreamFault) : Type 0 where
+  pub within : rank < length told
+  pub lower : AreAccepted told rank
+  pub stops : StopsAt told parts rank fault
+
+-- ---- writing the report
+
+-- the report of these rows was put, and it has a line of a finding exactly where `found`
+pub record Writes (out : Output) (rows : List Finding) (found : Bool) : Type 0 where
+  pub written : Appends out.old out.new (report_of usual_severities rows)
+  pub found_if : IsTrue found ↔ (0 < length (shown usual_severities rows))
+
+-- a front of the report of these rows was put, since a put failed
+pub record Cuts (out : Output) (rows : List Finding) : Type 0 where
+  pub rose : Rose out.before out.after
+  pub written : AppendsFront out.old out.new (report_of usual_severities rows)
+
+-- ---- the answers of a check
+
+-- The report is whole: every stream is complete and was read to its end, what was put is the report of the run's rows,
+-- and there is no line on the error stream.
+pub record WholeReport (o : Outside) (err : Output) (found : Bool) : Type 0 where
+  pub rows : List Finding
+  pub reads : ReadsRun o.told o.parts rows
+  pub writes : Writes o.out rows found
+  pub quiet : IsUnchanged err
+
+-- Refused stream: the lowest rank whose stream isn't complete, with its first bad place, which the line names.
+pub record RefusedStream (o : Outside) (err : Output) (answer : Status) : Type 0 where
+  pub rank : ℕ
+  pub fault : StreamFault
+  pub stops : Stops o.told o.parts rank fault
+  pub nothing : IsUnchanged o.out
+  pub answer_is : answer ≡ status_for fault
+  pub line : Puts err (fault_line rank fault)
+
+-- A read of a rank's file failed, and the streams of all lower ranks are complete.
+pub record FailedRead (o : Outside) (err : Output) : Type 0 where
+  pub rank : ℕ
+  pub stops : Stops o.told o.parts rank fault.Read
+  pub nothing : IsUnchanged o.out
+  pub line : Puts err (fault_line rank fault.Read)
+
+-- A put of the report failed: every stream is complete, and a front of the run's report was put.
+pub record FailedWrite (o : Outside) (err : Output) : Type 0 where
+  pub rows : List Finding
+  pub reads : ReadsRun o.told o.parts rows
+  pub cuts : Cuts o.out rows
+  pub line : Puts err write_line
+
+-- Outside fault: shown by the count of the part or of the output that failed.
+abbrev pub OutsideFault : Outside → Output → Type 0
+OutsideFault o err = FailedRead o err ⊎ FailedWrite o err
+
+-- Want of memory: nothing was put.
+pub record WantOfMemory (out err : Output) : Type 0 where
+  pub nothing : IsUnchanged out
+  pub line : Puts err memory_line
+
+-- Refused words: exactly the words that aren't canonical are refused, and nothing but the line was put then.
+pub record RefusedWords (words : List (List ℕ)) (out err : Output) (answer : Status) : Type 0 where
+  pub exact : (answer ≡ status.Usage) ↔ (command words ≡ None)
+  pub nothing : answer ≡ status.Usage → IsUnchanged out
+  pub line : answer ≡ status.Usage → Puts err usage_line
+
+-- ---- completeness
+
+-- the bytes of a rank's file are told, and its stream is complete
+abbrev pub IsKnownAccepted : List (Option (List ℕ)) → ℕ → Type 0
+IsKnownAccepted told rank = (bytes : List ℕ) × (told_at told rank ≡ Some bytes) × ((calls : List Call) × Accepted rank (length told) bytes calls)
+
+-- the bytes of a rank's file are told, and its stream is refused
+abbrev pub IsKnownRefused : List (Option (List ℕ)) → ℕ → StreamFault → Type 0
+IsKnownRefused told rank fault = (bytes : List ℕ) × (told_at told rank ≡ Some bytes) × Refused rank (length told) bytes fault
+
+-- each part that failed is one of a higher rank
+abbrev pub FailedAbove : List Part → ℕ → Type 0
+FailedAbove parts rank = (other : ℕ) (part : Part) → slice_get parts other ≡ Some part → HasFailed part → rank < other
+
+-- no part failed
+abbrev pub NoneFailed : List Part → Type 0
+NoneFailed parts = (rank : ℕ) (part : Part) → slice_get parts rank ≡ Some part → HasFailed part → ⊥
+
+-- The lowest refused rank is refused unless a read failed at it or below it, or there was no memory.
+abbrev pub RefusesLowest : Outside → Status → Type 0
+RefusesLowest o answer = (rank : ℕ) (fault : StreamFault) → ((lower : ℕ) → lower < rank → IsKnownAccepted o.told lower) → IsKnownRefused o.told rank fault → FailedAbove o.parts rank
+    → (answer ≡ status_for fault) ⊎ (answer ≡ status.NoMemory)
+
+-- Complete streams are reported unless a read or a put failed, or there was no memory.
+abbrev pub ReportsComplete : Outside → Status → Type 0
+ReportsComplete o answer = (streams : List (List ℕ)) (run : Run) → AreTold o.told streams → Records streams run → NoneFailed o.parts → (Rose o.out.before o.out.after → ⊥)
+    → IsSuccess answer ⊎ (answer ≡ status.NoMemory)
+
+-- Completeness: the answer is forced by the bytes and the counts.
+pub record Completeness (o : Outside) (answer : Status) : Type 0 where
+  pub refuses : RefusesLowest o answer
+  pub reports : ReportsComplete o answer
+
+-- ---- all promises
+
+-- What the program promises: `told` gives the bytes of files by their names, `bound` are the names that were bound, `parts`
+-- their parts at the end.
+pub record Promises (words : List (List ℕ)) (told : List (List ℕ) → List (Option (List ℕ))) (bound : List (List ℕ)) (parts : List Part) (out err : Output) (answer : Status) : Type 0 where
+  pub refused_words : RefusedWords words out err answer
+  pub names : (files : List (List ℕ)) → command words ≡ Some (Check files) → answer ≢ status.NoMemory → bound ≡ files
+  pub whole_report : (files : List (List ℕ)) → command words ≡ Some (Check files) → IsSuccess answer → WholeReport (record { told = told files; parts = parts; out = out }) err (is_found answer)
+  pub refused_stream : (files : List (List ℕ)) → command words ≡ Some (Check files) → IsRefusal answer → RefusedStream (record { told = told files; parts = parts; out = out }) err answer
+  pub outside_fault : (files : List (List ℕ)) → command words ≡ Some (Check files) → answer ≡ status.Outside → OutsideFault (record { told = told files; parts = parts; out = out }) err
+  pub want_of_memory : answer ≡ status.NoMemory → WantOfMemory out err
+  pub completeness : (files : List (List ℕ)) → command words ≡ Some (Check files) → Completeness (record { told = told files; parts = parts; out = out }) answer
+
+-- ---- the same by status, as the check of files gives it
+
+abbrev pub Answers : Outside → Output → Status → Type 0
+Answers o err status.Clean = WholeReport o err false
+Answers o err status.Found = WholeReport o err true
+Answers o err status.Usage = ⊥
+Answers o err status.Malformed = RefusedStream o err status.Malformed
+Answers o err status.Outside = OutsideFault o err
+Answers o err status.Bound = RefusedStream o err status.Bound
+Answers o err status.NoMemory = WantOfMemory o.out err

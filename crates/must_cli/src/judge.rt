@@ -1,0 +1,133 @@
+//! What the rules find at a call.
+
+ghost use Rattle.std.specs.Prelude.{◌≡◌, OnOk};
+ghost use Rattle.must_rules.specs.Counts.{count_of, count_below_zero};
+ghost use Rattle.must_rules.specs.Peers.{members, is_position, is_null, is_null_or_any, outside, peer_outside};
+ghost use Rattle.must_rules.specs.Walk.{Adds, IsAnswer, IsOfCall};
+
+use must_base::NoMemory;
+use must_call::{Body, Call, Place, Point};
+use must_find::{Finding, Findings, Rule};
+
+/// `MPI_PROC_NULL` as it is recorded.
+const PROC_NULL: i32 = -1;
+
+/// `MPI_ANY_SOURCE` as it is recorded.
+const ANY_SOURCE: i32 = -2;
+
+/// The see and the value of a finding.
+type Answer = (Option<Place>, i128);
+
+fn count(body: &Body) -> Option<i32>
+    ensures { result ≡ count_of body.now }
+{
+    match body {
+        Body::Point(Point::Send { count, .. } | Point::Recv { count, .. }) => Some(*count),
+        Body::Frame(_) => None,
+    }
+}
+
+#[tactic(auto, unfolding(must_rules::specs::Counts::count_below_zero))]
+fn judge_count(call: &Call) -> Option<Answer>
+    ensures { result ≡ count_below_zero call.now }
+{
+    match count(&call.body) {
+        Some(count) if count < 0 => Some((None, i128::from(count))),
+        _ => None,
+    }
+}
+
+/// How many members a predefined communicator has, in a run of so many ranks.
+fn member_count(size: u32, comm: u32) -> Option<u32>
+    ensures { result ≡ members size comm }
+{
+    match comm {
+        1 => Some(size),
+        2 => Some(1),
+        _ => None,
+    }
+}
+
+fn has_position(count: u32, peer: i32) -> bool
+    ensures { result ≡ is_position count peer }
+{
+    !(peer < 0) && i64::from(peer) < i64::from(count)
+}
+
+fn judge_dest(count: Option<u32>, dest: i32) -> Option<Answer>
+    ensures { result ≡ outside is_null count dest }
+{
+    match count {
+        None => None,
+        Some(count) => {
+            if dest == PROC_NULL || has_position(count, dest) {
+                None
+            } else {
+                Some((None, i128::from(dest)))
+            }
+        }
+    }
+}
+
+fn judge_source(count: Option<u32>, source: i32) -> Option<Answer>
+    ensures { result ≡ outside is_null_or_any count source }
+{
+    match count {
+        None => None,
+        Some(count) => {
+            if source == PROC_NULL || source == ANY_SOURCE || has_position(count, source) {
+                None
+            } else {
+                Some((None, i128::from(source)))
+            }
+        }
+    }
+}
+
+#[tactic(auto, unfolding(must_rules::specs::Peers::peer_outside))]
+fn judge_peer(size: u32, call: &Call) -> Option<Answer>
+    ensures { result ≡ peer_outside size call.now }
+{
+    match &call.body {
+        Body::Point(Point::Send { dest, comm, .. }) => judge_dest(member_count(size, *comm), *dest),
+        Body::Point(Point::Recv { source, comm, .. }) => {
+            judge_source(member_count(size, *comm), *source)
+        }
+        Body::Frame(_) => None,
+    }
+}
+
+/// Adds what a rule found at a part of a call.
+fn add_answer(
+    findings: &mut Findings,
+    at: Place,
+    rule: Rule,
+    part: u32,
+    answer: Option<Answer>,
+) -> Result<(), NoMemory>
+    ensures { OnOk result (Adds findings.old findings.new (IsAnswer at.rank at.call rule part answer)) }
+{
+    match answer {
+        None => Ok(()),
+        Some((see, value)) => {
+            findings.add(Finding {
+                rank: at.rank,
+                call: at.call,
+                rule,
+                part,
+                see,
+                value,
+            })?;
+            Ok(())
+        }
+    }
+}
+
+/// Adds what the rules find at a call of a run of so many ranks.
+pub fn add_call(findings: &mut Findings, size: u32, at: Place, call: &Call) -> Result<(), NoMemory>
+    ensures { OnOk result (Adds findings.old findings.new (IsOfCall size at.rank at.call call.now)) }
+{
+    add_answer(findings, at, Rule::A1, 0, judge_count(call))?;
+    add_answer(findings, at, Rule::A2, 0, judge_peer(size, call))?;
+    Ok(())
+}

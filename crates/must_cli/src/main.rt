@@ -1,0 +1,78 @@
+//! Checks recorded runs of MPI programs: reads one recorded stream of calls per rank, and writes one report.
+//!
+//! `main` makes the real files and streams and hands them to `run`, which does all that the program does. A check reads
+//! the streams one after the other, in time linear in their bytes. It holds one stream at a time in memory, and the
+//! findings and their report.
+#![tactic(auto)]
+
+mod command;
+mod judge;
+mod line;
+mod report;
+mod run;
+mod status;
+mod walk;
+
+use must_base::{FileTrace, NameText, NoMemory, OpenGate, Sink, StreamSink};
+use run::run;
+use status::Status;
+use std::alloc::Global;
+use std::env;
+use std::process::ExitCode;
+
+/// Why the words of the command line couldn't be taken.
+enum WordsFault {
+    /// They aren't text.
+    Refused,
+    NoMemory,
+}
+
+impl From<NoMemory> for WordsFault {
+    fn from(_e: NoMemory) -> WordsFault {
+        WordsFault::NoMemory
+    }
+}
+
+/// The words after the program's name.
+fn words_of(rt: &HostRuntime, alloc: Global) -> Result<Vec<NameText>, WordsFault> {
+    let Ok(args) = env::args(rt) else {
+        return Err(WordsFault::Refused);
+    };
+    let mut words = Vec::new(alloc);
+    for arg in args.skip(1) {
+        let word = NameText::new(alloc, arg.as_str())?;
+        if words.push(word).is_err() {
+            return Err(WordsFault::NoMemory);
+        }
+    }
+    Ok(words)
+}
+
+fn main(rt: HostRuntime) -> ExitCode {
+    let alloc = rt.alloc();
+    let mut out = StreamSink::new(rt.stdout());
+    let mut err = StreamSink::new(rt.stderr());
+    let status = match words_of(&rt, alloc) {
+        Ok(words) => {
+            let mut trace = FileTrace::new(alloc, rt);
+            run(
+                &(),
+                alloc,
+                &words,
+                &mut trace,
+                &mut out,
+                &mut err,
+                &OpenGate,
+            )
+        }
+        Err(WordsFault::Refused) => {
+            let _ = line::put_usage(&mut err);
+            Status::Usage
+        }
+        Err(WordsFault::NoMemory) => {
+            let _ = line::put_memory(&mut err);
+            Status::NoMemory
+        }
+    };
+    ExitCode::from(status as u8)
+}
