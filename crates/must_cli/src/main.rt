@@ -11,6 +11,8 @@ mod line;
 mod report;
 mod run;
 mod status;
+#[cfg(test)]
+mod tests;
 mod walk;
 
 use must_base::{FileTrace, NameText, NoMemory, OpenGate, Sink, StreamSink};
@@ -53,18 +55,6 @@ fn main(rt: HostRuntime) -> ExitCode {
     let mut out = StreamSink::new(rt.stdout());
     let mut err = StreamSink::new(rt.stderr());
     let status = match words_of(&rt, alloc) {
-        Ok(words) => {
-            let mut trace = FileTrace::new(alloc, rt);
-            run(
-                &(),
-                alloc,
-                &words,
-                &mut trace,
-                &mut out,
-                &mut err,
-                &OpenGate,
-            )
-        }
         Err(WordsFault::Refused) => {
             let _ = line::put_usage(&mut err);
             Status::Usage
@@ -73,6 +63,18 @@ fn main(rt: HostRuntime) -> ExitCode {
             let _ = line::put_memory(&mut err);
             Status::NoMemory
         }
+        Ok(words) => match rt.clone() {
+            Err(_) => {
+                let _ = line::put_memory(&mut err);
+                Status::NoMemory
+            }
+            Ok(files) => {
+                let mut trace = FileTrace::new(alloc, files);
+                run(
+                    &rt, alloc, &words, &mut trace, &mut out, &mut err, &OpenGate,
+                )
+            }
+        },
     };
     ExitCode::from(status as u8)
 }

@@ -1,0 +1,437 @@
+//! Worked rows of the program, over files and sinks in memory.
+
+ghost use Rattle.std.specs.Prelude.{◌<◌, All, OnOk, IfOk};
+
+use crate::run::{run, serial_command};
+use crate::status::Status;
+use must_base::{MemFile, MemSink, MemTrace, NameText, OpenGate};
+use std::alloc::Global;
+use std::process::Abort;
+use std::test::Fail;
+
+const INIT: [u8; 6] = [1, 0, 0, 0, 0, 0];
+
+const FINALIZE: [u8; 6] = [2, 0, 0, 0, 0, 0];
+
+/// A record of Send(4096, count, INT, dest, tag 0, world), returned.
+fn send(count: i32, dest: i32) -> [u8; 34] {
+    let c = count.to_be_bytes();
+    let d = dest.to_be_bytes();
+    [
+        3, 0, 0, 0, 0, 28, // kind, flags, length
+        0, 0, 0, 0, 0, 0, 16, 0, // buf
+        c[0], c[1], c[2], c[3], // count
+        0, 0, 0, 7, // type
+        d[0], d[1], d[2], d[3], // dest
+        0, 0, 0, 0, // tag
+        0, 0, 0, 1, // comm
+    ]
+}
+
+/// A record of Recv(8192, count, INT, source, tag 0, comm; 0, 0), returned.
+fn recv(count: i32, source: i32, comm: u8) -> [u8; 43] {
+    let c = count.to_be_bytes();
+    let s = source.to_be_bytes();
+    [
+        7, 0, 0, 0, 0, 37, // kind, flags, length
+        0, 0, 0, 0, 0, 0, 32, 0, // buf
+        c[0], c[1], c[2], c[3], // count
+        0, 0, 0, 7, // type
+        s[0], s[1], s[2], s[3], // source
+        0, 0, 0, 0, // tag
+        0, 0, 0, comm, // comm
+        0, 0, 0, 0, 0, 0, 0, 0, 0, // status
+    ]
+}
+
+/// The stream of a rank: Init, these records, Finalize and the end record.
+fn stream(alloc: Global, rank: u8, size: u8, records: &[&[u8]]) -> Result<Vec<u8>, Fail> {
+    let mut bytes = Vec::from_slice(alloc, b"MTRC")?;
+    bytes.extend_from_slice(&[1, 0, 0, 0, rank, 0, 0, 0, size, 0, 0, 0x7f, 0xff])?;
+    bytes.extend_from_slice(&INIT)?;
+    for record in records {
+        bytes.extend_from_slice(record)?;
+    }
+    bytes.extend_from_slice(&FINALIZE)?;
+    let calls = u32::try_from(records.len())?.saturating_add(2);
+    bytes.extend_from_slice(&[0, 0, 0, 0, 0, 4])?;
+    bytes.extend_from_slice(&calls.to_be_bytes())?;
+    Ok(bytes)
+}
+
+fn name(alloc: Global, text: &str) -> Result<NameText, Fail> {
+    Ok(NameText::new(alloc, text)?)
+}
+
+/// A file to add: its name, its bytes, how many it gives a read, and the reads that fail.
+#[derive(Drop)]
+struct Given<'a> {
+    name: &'a str,
+    bytes: &'a [u8],
+    chunk: usize,
+    fail: &'a [u64],
+}
+
+/// The files of a trace.
+fn add_file(alloc: Global, files: &mut Vec<MemFile>, given: &Given) -> Result<(), Fail>
+    requires { All (λ f. 0 < f.chunk) files.old.items }
+    ensures { OnOk result (All (λ f. 0 < f.chunk) files.new.items) }
+{
+    let file = MemFile {
+        name: name(alloc, given.name)?,
+        bytes: given.bytes.to_vec(alloc)?,
+        chunk: given.chunk.max(1),
+        fail: given.fail.to_vec(alloc)?,
+    };
+    files.push(file)?;
+    Ok(())
+}
+
+fn one_file(alloc: Global, given: &Given) -> Result<Vec<MemFile>, Fail>
+    ensures { IfOk result (λ files. All (λ f. 0 < f.chunk) files.items) }
+{
+    let mut files = Vec::new(alloc);
+    add_file(alloc, &mut files, given)?;
+    Ok(files)
+}
+
+fn three_files(
+    alloc: Global,
+    first: &Given,
+    second: &Given,
+    third: &Given,
+) -> Result<Vec<MemFile>, Fail>
+    ensures { IfOk result (λ files. All (λ f. 0 < f.chunk) files.items) }
+{
+    let mut files = one_file(alloc, first)?;
+    add_file(alloc, &mut files, second)?;
+    add_file(alloc, &mut files, third)?;
+    Ok(files)
+}
+
+/// The words, parted by blanks.
+fn words_of(alloc: Global, text: &str) -> Result<Vec<NameText>, Fail> {
+    let mut words = Vec::new(alloc);
+    for word in text.split(' ') {
+        if !word.is_empty() {
+            words.push(name(alloc, word)?)?;
+        }
+    }
+    Ok(words)
+}
+
+fn sink(alloc: Global, fail: &[u64]) -> Result<MemSink, Fail> {
+    let mut sink = MemSink::new(alloc, fail.to_vec(alloc)?);
+    sink.reserve(1000)?;
+    Ok(sink)
+}
+
+/// What a run of the program is to answer.
+#[derive(Drop)]
+struct Answer<'a> {
+    status: Status,
+    out: &'a str,
+    err: &'a str,
+}
+
+/// Runs these words over these files, and compares the status and what was put.
+fn runs(
+    rt: &impl Abort,
+    alloc: Global,
+    words: &str,
+    files: Vec<MemFile>,
+    want: &Answer,
+) -> Result<(), Fail>
+    requires { All (λ f. 0 < f.chunk) files.items }
+{
+    let words = words_of(alloc, words)?;
+    let mut trace = MemTrace::new(alloc, files);
+    let mut out = sink(alloc, &[])?;
+    let mut err = sink(alloc, &[])?;
+    let status = run(
+        &(),
+        alloc,
+        &words,
+        &mut trace,
+        &mut out,
+        &mut err,
+        &OpenGate,
+    );
+    assert_eq!(rt; status, want.status, "{}", want.out);
+    assert_eq!(rt; out.bytes(), want.out.as_bytes());
+    assert_eq!(rt; err.bytes(), want.err.as_bytes());
+    Ok(())
+}
+
+fn whole<'a>(name: &'a str, bytes: &'a [u8]) -> Given<'a> {
+    Given {
+        name,
+        bytes,
+        chunk: 3,
+        fail: &[],
+    }
+}
+
+fn failing<'a>(name: &'a str, bytes: &'a [u8], fail: &'a [u64]) -> Given<'a> {
+    Given {
+        name,
+        bytes,
+        chunk: 3,
+        fail,
+    }
+}
+
+fn by_bytes<'a>(name: &'a str, bytes: &'a [u8], fail: &'a [u64]) -> Given<'a> {
+    Given {
+        name,
+        bytes,
+        chunk: 1,
+        fail,
+    }
+}
+
+const CLEAN: Answer<'static> = Answer {
+    status: Status::Clean,
+    out: "violations 0\n",
+    err: "",
+};
+
+/// Checks the one stream with these records between Init and Finalize.
+fn one_rank(rt: &impl Abort, alloc: Global, records: &[&[u8]], want: &Answer) -> Result<(), Fail> {
+    let bytes = stream(alloc, 0, 1, records)?;
+    runs(
+        rt,
+        alloc,
+        "check a",
+        one_file(alloc, &whole("a", &bytes))?,
+        want,
+    )
+}
+
+fn found(out: &str) -> Answer<'_> {
+    Answer {
+        status: Status::Found,
+        out,
+        err: "",
+    }
+}
+
+fn malformed(err: &str) -> Answer<'_> {
+    Answer {
+        status: Status::Malformed,
+        out: "",
+        err,
+    }
+}
+
+fn outside(err: &str) -> Answer<'_> {
+    Answer {
+        status: Status::Outside,
+        out: "",
+        err,
+    }
+}
+
+#[test]
+fn reports_of_one_rank(rt: HostRuntime) -> Result<(), Fail> {
+    let alloc = rt.alloc();
+    one_rank(&rt, alloc, &[], &CLEAN)?;
+    one_rank(
+        &rt,
+        alloc,
+        &[&send(-1, 0)],
+        &found("rank 0 call 1 part 0: error A1 negative count, see -, value -1\nviolations 1\n"),
+    )?;
+    one_rank(
+        &rt,
+        alloc,
+        &[&send(1, 1), &send(1, -1)],
+        &found("rank 0 call 1 part 0: error A2 peer out of range, see -, value 1\nviolations 1\n"),
+    )?;
+    // A send has no wildcard; a receive has, and its communicator 2 has one member.
+    one_rank(
+        &rt,
+        alloc,
+        &[
+            &send(1, -2),
+            &recv(1, -2, 1),
+            &recv(-5, 1, 2),
+            &recv(1, 0, 2),
+        ],
+        &found(
+            "rank 0 call 1 part 0: error A2 peer out of range, see -, value -2\nrank 0 call 3 part 0: error A1 negative count, see -, value -5\nrank 0 call 3 part 0: error A2 peer out of range, see -, value 1\nviolations 3\n",
+        ),
+    )
+}
+
+#[test]
+fn refused_words_and_streams(rt: HostRuntime) -> Result<(), Fail> {
+    let alloc = rt.alloc();
+    let usage = Answer {
+        status: Status::Usage,
+        out: "",
+        err: "usage: must_cli check|dump|drill\n",
+    };
+    let empty = stream(alloc, 0, 1, &[])?;
+    for words in [
+        "",
+        "check",
+        "chek a",
+        "check --fan-in=8 a",
+        "check a --serial",
+        "check -",
+    ] {
+        runs(
+            &rt,
+            alloc,
+            words,
+            one_file(alloc, &whole("a", &empty))?,
+            &usage,
+        )?;
+    }
+    let cut = &empty[..empty.len().saturating_sub(1)];
+    let mut longer = empty.clone()?;
+    longer.push(0)?;
+    let none = one_file(alloc, &whole("a", &[]))?;
+    runs(
+        &rt,
+        alloc,
+        "check a",
+        none,
+        &malformed("rank 0 malformed at 0: Truncated\n"),
+    )?;
+    let without_last = one_file(alloc, &whole("a", cut))?;
+    runs(
+        &rt,
+        alloc,
+        "check a",
+        without_last,
+        &malformed("rank 0 malformed at 29: Truncated\n"),
+    )?;
+    let one_more = one_file(alloc, &whole("a", &longer))?;
+    runs(
+        &rt,
+        alloc,
+        "check a",
+        one_more,
+        &malformed("rank 0 malformed at 39: AfterEnd\n"),
+    )?;
+    let of_one = one_file(alloc, &whole("a", &empty))?;
+    runs(
+        &rt,
+        alloc,
+        "check a a",
+        of_one,
+        &malformed("rank 0 malformed at 9: WrongSize\n"),
+    )?;
+    let other = one_file(alloc, &whole("a", &empty))?;
+    runs(
+        &rt,
+        alloc,
+        "check b",
+        other,
+        &outside("rank 0 read failed\n"),
+    )
+}
+
+#[test]
+fn runs_of_many_ranks(rt: HostRuntime) -> Result<(), Fail> {
+    let alloc = rt.alloc();
+    let a = stream(alloc, 0, 3, &[&send(1, 2)])?;
+    let b = stream(alloc, 1, 3, &[&send(1, 3)])?;
+    let c = stream(alloc, 2, 3, &[])?;
+    let cut = &b[..b.len().saturating_sub(1)];
+    let files = three_files(alloc, &whole("a", &a), &whole("b", &b), &whole("c", &c))?;
+    let line = "rank 1 call 1 part 0: error A2 peer out of range, see -, value 3\nviolations 1\n";
+    runs(&rt, alloc, "check a b c", files, &found(line))?;
+    // The lowest rank that isn't complete is refused, also where a higher one fails or isn't there.
+    let refused = malformed("rank 1 malformed at 63: Truncated\n");
+    let files = three_files(
+        alloc,
+        &whole("a", &a),
+        &whole("b", cut),
+        &failing("c", &c, &[0]),
+    )?;
+    runs(&rt, alloc, "check a b c", files, &refused)?;
+    let files = three_files(alloc, &whole("a", &a), &whole("b", cut), &whole("c", &c))?;
+    runs(&rt, alloc, "check a b d", files, &refused)?;
+    let files = three_files(
+        alloc,
+        &failing("a", &a, &[2]),
+        &whole("b", cut),
+        &whole("c", &c),
+    )?;
+    runs(
+        &rt,
+        alloc,
+        "check a b c",
+        files,
+        &outside("rank 0 read failed\n"),
+    )?;
+    let files = three_files(alloc, &whole("a", &a), &whole("b", &b), &whole("c", &c))?;
+    runs(
+        &rt,
+        alloc,
+        "check b a c",
+        files,
+        &malformed("rank 0 malformed at 5: WrongRank\n"),
+    )
+}
+
+#[test]
+fn each_read_fails(rt: HostRuntime) -> Result<(), Fail> {
+    let alloc = rt.alloc();
+    let bytes = stream(alloc, 0, 1, &[])?;
+    let words = words_of(alloc, "check a")?;
+    for read in 0..41u64 {
+        let fail = [read];
+        let mut trace = MemTrace::new(alloc, one_file(alloc, &by_bytes("a", &bytes, &fail))?);
+        let mut out = sink(alloc, &[])?;
+        let mut err = sink(alloc, &[])?;
+        let status = serial_command(alloc, &words, &mut trace, &mut out, &mut err);
+        // Read 39 is the one that finds the end.
+        if read < 40 {
+            assert_eq!(rt; status, Status::Outside, "read {read}");
+            assert_eq!(rt; out.bytes(), "".as_bytes());
+            assert_eq!(rt; err.bytes(), "rank 0 read failed\n".as_bytes());
+        } else {
+            assert_eq!(rt; status, Status::Clean);
+        }
+    }
+    Ok(())
+}
+
+#[test]
+fn each_put_fails(rt: HostRuntime) -> Result<(), Fail> {
+    let alloc = rt.alloc();
+    let words = words_of(alloc, "check a")?;
+    let bytes = stream(alloc, 0, 1, &[&send(1, 1), &send(1, -1)])?;
+    let text: &[u8] =
+        b"rank 0 call 1 part 0: error A2 peer out of range, see -, value 1\nviolations 1\n";
+    for put in 0..3u64 {
+        let mut trace = MemTrace::new(alloc, one_file(alloc, &whole("a", &bytes))?);
+        let mut out = sink(alloc, &[put])?;
+        let mut err = sink(alloc, &[])?;
+        let status = serial_command(alloc, &words, &mut trace, &mut out, &mut err);
+        assert!(rt; text.starts_with(out.bytes()), "put {put}");
+        if status == Status::Outside {
+            assert_eq!(rt; err.bytes(), "write failed\n".as_bytes());
+        } else {
+            assert_eq!(rt; status, Status::Found);
+            assert!(rt; put > 0);
+        }
+    }
+    // A line on the error stream that is cut leaves the status.
+    let line: &[u8] = b"rank 0 malformed at 97: Truncated\n";
+    let cut = &bytes[..bytes.len().saturating_sub(1)];
+    for put in 0..9u64 {
+        let mut trace = MemTrace::new(alloc, one_file(alloc, &whole("a", cut))?);
+        let mut out = sink(alloc, &[])?;
+        let mut err = sink(alloc, &[put])?;
+        let status = serial_command(alloc, &words, &mut trace, &mut out, &mut err);
+        assert_eq!(rt; status, Status::Malformed, "put {put}");
+        assert_eq!(rt; out.bytes(), "".as_bytes());
+        assert!(rt; line.starts_with(err.bytes()), "put {put}");
+    }
+    Ok(())
+}
