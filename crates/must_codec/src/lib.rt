@@ -15,6 +15,8 @@ mod record;
 mod stream;
 mod tables;
 mod taking;
+#[cfg(test)]
+mod tests;
 mod view;
 mod writing;
 
