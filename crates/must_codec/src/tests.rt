@@ -1,7 +1,8 @@
 //! Streams byte by byte, with the answers of docs/FORMAT.md.
 
 use crate::{
-    Cause, Expect, Limit, Step, StreamFault, StreamReader, fits, read_record, write_record,
+    Cause, Expect, Limit, Step, StreamFault, StreamReader, complete_streams, fits, known_kinds,
+    one_reading, one_spelling, read_record, write_record,
 };
 use must_base::MemSource;
 use must_call::{Body, Call, Frame, Kind, Point, Status3};
@@ -572,4 +573,8 @@ fn names(rt: HostRuntime) {
         assert_eq!(rt; cause.name(), name);
     }
     assert_eq!(rt; Limit::PendingWeight.name(), "PendingWeight");
+    one_spelling();
+    known_kinds();
+    one_reading();
+    complete_streams();
 }
