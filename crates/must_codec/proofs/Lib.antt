@@ -13,3 +13,4 @@ pub mod Longer
 pub mod Headers
 pub mod Opening
 pub mod Reading
+pub mod Accepting

@@ -11,16 +11,20 @@ mod decoding;
 mod fitting;
 mod header;
 mod judging;
+mod laws;
 mod record;
 mod stream;
 mod tables;
 mod taking;
+#[cfg(test)]
+mod tests;
 mod view;
 mod writing;
 
 pub use fitting::fits;
+pub use laws::{complete_streams, known_kinds, one_reading, one_spelling};
 pub use must_format::{Cause, Header, Limit, StreamFault};
-pub use record::{Step, one_spelling, read_record};
-pub use stream::{Expect, StreamReader, one_reading};
+pub use record::{Step, read_record};
+pub use stream::{Expect, StreamReader};
 pub use view::CallView;
 pub use writing::write_record;

@@ -47,11 +47,6 @@ pub fn read_record(version: u8, bytes: &[u8]) -> Step<'_>
     judge_record(version, bytes)
 }
 
-/// No spelling of a call begins another, and each is of one call.
-pub fn one_spelling()
-    ensures { (c d : Call) (a b x y : List ℕ) → Spells c a → Spells d b → a ++ x ≡ b ++ y → (c ≡ d) × (a ≡ b) }
-{}
-
 #[tactic(auto, unfolding(must_format::specs::Record::front))]
 fn judge_record(version: u8, bytes: &[u8]) -> Step<'_>
     ensures exact { seen result ≡ front version bytes.now }

@@ -5,7 +5,7 @@ ghost use Rattle.std.specs.Option.{option_map};
 ghost use Rattle.must_base.specs.Causes.{Rose};
 ghost use Rattle.must_call.specs.declared.call.Call.{Call};
 ghost use Rattle.must_format.specs.declared.fault.StreamFault.{StreamFault};
-ghost use Rattle.must_format.specs.Stream.{byte_limit, start, IsStream};
+ghost use Rattle.must_format.specs.Stream.{byte_limit, start};
 ghost use Rattle.must_format.specs.Reader.{Fresh, Before, Ended, Failed, StandsFor, Gave, Continues, ReaderState};
 ghost use Rattle.must_codec.specs.Views.{Leaves, KeepsAt, Opened};
 
@@ -220,9 +220,3 @@ impl StreamReader {
         }
     }
 }
-
-/// The bytes of a stream determine its calls, and its end or its refusal.
-pub fn one_reading()
-    ensures { (rank n : ℕ) (bytes : List ℕ) (calls others : List Call) (end other : Option StreamFault)
-        → IsStream rank n bytes calls end → IsStream rank n bytes others other → (calls ≡ others) × (end ≡ other) }
-{}

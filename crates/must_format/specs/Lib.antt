@@ -7,5 +7,6 @@ pub mod Judging
 pub mod Decoding
 pub mod Record
 pub mod Stream
+pub mod Complete
 pub mod StreamLaws
 pub mod Reader

@@ -1,5 +1,5 @@
 -- The values of fields, which of them a record may have, and how they are spelled. All numbers are big-endian.
-use Rattle.std.specs.Prelude.{ℕ, ◌<◌, ◌^◌, ℤ, Bool, true, false, List, [], ◌∷◌, ◌++◌}
+use Rattle.std.specs.Prelude.{ℕ, ◌<◌, ◌^◌, ℤ, Bool, true, false, List, [], ◌∷◌, ◌++◌, slice_index}
 use Rattle.std.specs.List.{flat_map}
 use Rattle.std.specs.Int.RustNames.{FitsSigned}
 use Rattle.std.specs.Int.{w32, w64, to_be_bytes, cast_unsigned}
@@ -8,6 +8,10 @@ use Rattle.must_format.specs.declared.cell.Cell.{Cell}
 use Rattle.must_format.specs.declared.cell.Cell.TheVariants as cell
 use Rattle.must_format.specs.declared.field.Field.{Field}
 use Rattle.must_format.specs.declared.field.Field.TheVariants.{U32, U64, I32, Status}
+
+-- each is a byte
+abbrev pub IsBytes : List ℕ → Type 0
+IsBytes bytes = (i : ℕ) → slice_index bytes i < 256
 
 -- the value of one field
 abbrev pub Value : Field → Type 0
