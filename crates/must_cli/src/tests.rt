@@ -44,18 +44,31 @@ fn recv(count: i32, source: i32, comm: u8) -> [u8; 43] {
     ]
 }
 
-/// The stream of a rank: Init, these records, Finalize and the end record.
-fn stream(alloc: Global, rank: u8, size: u8, records: &[&[u8]]) -> Result<Vec<u8>, Fail> {
-    let mut bytes = Vec::from_slice(alloc, b"MTRC")?;
-    bytes.extend_from_slice(&[1, 0, 0, 0, rank, 0, 0, 0, size, 0, 0, 0x7f, 0xff])?;
+/// The front of a rank's stream: the header with tags up to 32767, and Init.
+fn front(alloc: Global, rank: u32, size: u32) -> Result<Vec<u8>, Fail> {
+    let mut bytes = Vec::from_slice(alloc, b"MTRC\x01")?;
+    bytes.extend_from_slice(&rank.to_be_bytes())?;
+    bytes.extend_from_slice(&size.to_be_bytes())?;
+    bytes.extend_from_slice(&[0, 0, 0x7f, 0xff])?;
     bytes.extend_from_slice(&INIT)?;
+    Ok(bytes)
+}
+
+/// Adds Finalize and the end record, behind so many calls.
+fn finish(bytes: &mut Vec<u8>, calls: u32) -> Result<(), Fail> {
+    bytes.extend_from_slice(&FINALIZE)?;
+    bytes.extend_from_slice(&[0, 0, 0, 0, 0, 4])?;
+    bytes.extend_from_slice(&calls.saturating_add(1).to_be_bytes())?;
+    Ok(())
+}
+
+/// The stream of a rank: Init, these records, Finalize and the end record.
+fn stream(alloc: Global, rank: u32, size: u32, records: &[&[u8]]) -> Result<Vec<u8>, Fail> {
+    let mut bytes = front(alloc, rank, size)?;
     for record in records {
         bytes.extend_from_slice(record)?;
     }
-    bytes.extend_from_slice(&FINALIZE)?;
-    let calls = u32::try_from(records.len())?.saturating_add(2);
-    bytes.extend_from_slice(&[0, 0, 0, 0, 0, 4])?;
-    bytes.extend_from_slice(&calls.to_be_bytes())?;
+    finish(&mut bytes, u32::try_from(records.len())?.saturating_add(1))?;
     Ok(bytes)
 }
 
@@ -433,5 +446,83 @@ fn each_put_fails(rt: HostRuntime) -> Result<(), Fail> {
         assert_eq!(rt; out.bytes(), "".as_bytes());
         assert!(rt; line.starts_with(err.bytes()), "put {put}");
     }
+    Ok(())
+}
+
+/// A sink with this much room.
+fn wide_sink(alloc: Global, room: usize) -> Result<MemSink, Fail> {
+    let mut sink = MemSink::new(alloc, Vec::new(alloc));
+    sink.reserve(room)?;
+    Ok(sink)
+}
+
+#[test]
+fn many_findings(rt: HostRuntime) -> Result<(), Fail> {
+    let alloc = rt.alloc();
+    let mut bytes = front(alloc, 0, 1)?;
+    for _ in 0..100_000u32 {
+        bytes.extend_from_slice(&send(-1, 0))?;
+    }
+    finish(&mut bytes, 100_001)?;
+    let words = words_of(alloc, "check a")?;
+    let given = Given {
+        name: "a",
+        bytes: &bytes,
+        chunk: 4096,
+        fail: &[],
+    };
+    let mut trace = MemTrace::new(alloc, one_file(alloc, &given)?);
+    let mut out = wide_sink(alloc, 10_000_000)?;
+    let mut err = sink(alloc, &[])?;
+    let status = serial_command(alloc, &words, &mut trace, &mut out, &mut err);
+    assert_eq!(rt; status, Status::Found);
+    let last =
+        b"rank 0 call 100000 part 0: error A1 negative count, see -, value -1\nviolations 100000\n";
+    assert!(rt; out.bytes().ends_with(last));
+    let lines = out.bytes().iter().filter(|byte| **byte == b'\n').count();
+    assert_eq!(rt; lines, 100_001);
+    Ok(())
+}
+
+/// The files `f0`, `f1` and so on of a run of so many ranks, each with a send to the rank that isn't there.
+fn add_ranks(
+    alloc: Global,
+    files: &mut Vec<MemFile>,
+    words: &mut Vec<NameText>,
+    size: u32,
+) -> Result<(), Fail>
+    requires { All (λ f. 0 < f.chunk) files.old.items }
+    ensures { OnOk result (All (λ f. 0 < f.chunk) files.new.items) }
+{
+    for rank in 0..size {
+        let text = format!(in alloc; "f{rank}")?;
+        let mut bytes = front(alloc, rank, size)?;
+        bytes.extend_from_slice(&send(1, i32::try_from(size)?))?;
+        finish(&mut bytes, 2)?;
+        add_file(alloc, files, &whole(text.as_str(), &bytes))?;
+        words.push(name(alloc, text.as_str())?)?;
+    }
+    Ok(())
+}
+
+#[test]
+fn many_ranks(rt: HostRuntime) -> Result<(), Fail> {
+    let alloc = rt.alloc();
+    let mut files = Vec::new(alloc);
+    let mut words = words_of(alloc, "check")?;
+    add_ranks(alloc, &mut files, &mut words, 1024)?;
+    let mut trace = MemTrace::new(alloc, files);
+    let mut out = wide_sink(alloc, 100_000)?;
+    let mut err = sink(alloc, &[])?;
+    let status = serial_command(alloc, &words, &mut trace, &mut out, &mut err);
+    assert_eq!(rt; status, Status::Found);
+    let last =
+        b"rank 1023 call 1 part 0: error A2 peer out of range, see -, value 1024\nviolations 1024\n";
+    assert!(rt; out.bytes().ends_with(last));
+    // One file more is refused.
+    words.push(name(alloc, "f0")?)?;
+    let mut out = sink(alloc, &[])?;
+    let status = serial_command(alloc, &words, &mut trace, &mut out, &mut err);
+    assert_eq!(rt; status, Status::Usage);
     Ok(())
 }
