@@ -20,6 +20,7 @@ use run::run;
 use status::Status;
 use std::alloc::Global;
 use std::env;
+use std::io::ErrorKind;
 use std::process::ExitCode;
 
 /// Why the words of the command line couldn't be taken.
@@ -37,8 +38,10 @@ impl From<NoMemory> for WordsFault {
 
 /// The words after the program's name.
 fn words_of(rt: &HostRuntime, alloc: Global) -> Result<Vec<NameText>, WordsFault> {
-    let Ok(args) = env::args(rt) else {
-        return Err(WordsFault::Refused);
+    let args = match env::args(rt) {
+        Ok(args) => args,
+        Err(e) if e.kind() == ErrorKind::OutOfMemory => return Err(WordsFault::NoMemory),
+        Err(_) => return Err(WordsFault::Refused),
     };
     let mut words = Vec::new(alloc);
     for arg in args.skip(1) {
