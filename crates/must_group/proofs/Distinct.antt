@@ -38,3 +38,7 @@ difference_absent xs ys =
 
 pub union_distinct : (xs ys : List ℕ) → IsDistinct nat_eq xs → IsDistinct nat_eq (difference ys xs) → IsDistinct nat_eq (union xs ys)
 union_distinct xs ys d e = append_distinct xs (difference ys xs) d e (difference_absent xs ys)
+
+pub nil_distinct : IsDistinct nat_eq []
+unfolding IsDistinct
+nil_distinct = tt

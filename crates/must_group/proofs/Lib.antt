@@ -1,3 +1,5 @@
 pub mod Distinct
+pub mod Gathered
 pub mod Listed
 pub mod Looked
+pub mod Ordered

@@ -1,7 +1,8 @@
 //! Groups.
 
-ghost use Rattle.std.specs.Prelude.{◌≡◌, ℕ, ℤ, IfOk, length, nat_eq, None};
+ghost use Rattle.std.specs.Prelude.{◌≡◌, ℕ, ℤ, IfOk, OnOk, OnErr, length, nat_eq, None, [], ◌∷◌, ◌++◌, false};
 ghost use Rattle.std.specs.List.{IsDistinct};
+ghost use Rattle.std.specs.Set.{is_member};
 ghost use Rattle.must_group.specs.Groups.{union, intersection, difference, first_bad, incl, excl};
 
 use crate::lookup::Lookup;
@@ -35,6 +36,25 @@ impl Group {
     {
         let ranks = ranks.to_vec(alloc)?;
         Ok(Group { ranks })
+    }
+
+    /// The group without members.
+    pub(crate) fn empty(alloc: Global) -> Group
+        ensures { result ≡ [] }
+    {
+        Group {
+            ranks: Vec::new(alloc),
+        }
+    }
+
+    /// One more member behind the others.
+    pub(crate) fn push(&mut self, rank: u32) -> Result<(), NoMemory>
+        requires { is_member nat_eq self.old rank ≡ false }
+        ensures ok { OnOk result (self.new ≡ self.old ++ rank ∷ []) }
+        ensures err { OnErr result (self.new ≡ self.old) }
+    {
+        self.ranks.push(rank)?;
+        Ok(())
     }
 
     /// The world ranks of the members in order.

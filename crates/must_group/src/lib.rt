@@ -4,5 +4,7 @@
 mod group;
 mod lookup;
 mod positions;
+mod splits;
 
 pub use group::Group;
+pub use splits::{Groups, SplitRow, split};
