@@ -45,9 +45,9 @@ members_more rows i d color within =
     let p : SplitRow → Bool = λ row. int_eq row.color color in
     let f : SplitRow → ℕ = λ row. row.member in
     ap (map f) (filter_more p rows i d within) ∙ map-append f (filter p (take i rows)) (cond (p (get_or rows i d)) (get_or rows i d ∷ []) []) ∙ ap (λ l. members_so_far (take i rows) color ++ l) (mapped (p (get_or rows i d)) (get_or rows i d)) where
-  mapped : (b : Bool) (row : SplitRow) → map (λ row. row.member) (cond b (row ∷ []) []) ≡ cond b (row.member ∷ []) []
-  mapped true row = refl
-  mapped false row = refl
+      mapped : (b : Bool) (row : SplitRow) → map (λ row. row.member) (cond b (row ∷ []) []) ≡ cond b (row.member ∷ []) []
+      mapped true row = refl
+      mapped false row = refl
 
 skipped_by : (b : Bool) (rows more : List SplitRow) (color : ℤ) → int_eq color (negsuc 0) ≡ b → (b ≡ false → members_so_far more color ≡ members_so_far rows color) → gathered more color ≡ gathered rows color
 skipped_by true rows more color e h = rw e refl
@@ -59,8 +59,8 @@ apart a b c same differ = int_eq_equiv.congr a b c same ∙ int_eq_equiv.symm b 
 pub gathered_skip : (rows : List SplitRow) (i : ℕ) (d : SplitRow) → i < length rows → int_eq (get_or rows i d).color (negsuc 0) ≡ true → (color : ℤ) → gathered (take (i + 1) rows) color ≡ gathered (take i rows) color
 gathered_skip rows i d within undefined color =
     skipped_by (int_eq color (negsuc 0)) (take i rows) (take (i + 1) rows) color refl (λ other.
-        let out = apart (get_or rows i d).color (negsuc 0) color undefined other in
-        members_more rows i d color within ∙ ap (λ b. members_so_far (take i rows) color ++ cond b ((get_or rows i d).member ∷ []) []) out ∙ append-nil (members_so_far (take i rows) color))
+    let out = apart (get_or rows i d).color (negsuc 0) color undefined other in
+    members_more rows i d color within ∙ ap (λ b. members_so_far (take i rows) color ++ cond b ((get_or rows i d).member ∷ []) []) out ∙ append-nil (members_so_far (take i rows) color))
 
 -- a row joins the group of its color
 abbrev joined : List SplitRow → SplitRow → ℤ → Option (List ℕ)
@@ -74,9 +74,9 @@ join_by true rows more row color other same h =
     let e : row.color ≡ color = (Decides-int_eq row.color color).0 same in
     let defined : int_eq color (negsuc 0) ≡ false = ap (λ c. int_eq c (negsuc 0)) (sym e) ∙ other in
     let left : gathered more color ≡ Some (members_so_far rows color ++ row.member ∷ []) =
-        ap (λ b. cond b None (some_of (members_so_far more color))) defined ∙ ap some_of h ∙ pushed (members_so_far rows color) row.member in
+    ap (λ b. cond b None (some_of (members_so_far more color))) defined ∙ ap some_of h ∙ pushed (members_so_far rows color) row.member in
     let right : joined rows row color ≡ Some (members_so_far rows row.color ++ row.member ∷ []) =
-        ap (λ b. cond b (Some (unwrap_or (gathered rows row.color) [] ++ row.member ∷ [])) (gathered rows color)) same ∙ ap (λ l. Some (l ++ row.member ∷ [])) (so_far rows row.color other) in
+    ap (λ b. cond b (Some (unwrap_or (gathered rows row.color) [] ++ row.member ∷ [])) (gathered rows color)) same ∙ ap (λ l. Some (l ++ row.member ∷ [])) (so_far rows row.color other) in
     left ∙ ap (λ c. Some (members_so_far rows c ++ row.member ∷ [])) (sym e) ∙ sym right
 join_by false rows more row color other differ h =
     ap (λ l. cond (int_eq color (negsuc 0)) None (some_of l)) (h ∙ append-nil (members_so_far rows color)) ∙ sym (ap (λ b. cond b (Some (unwrap_or (gathered rows row.color) [] ++ row.member ∷ [])) (gathered rows color)) differ)
@@ -92,12 +92,12 @@ new_member rows i d color within h =
     let m = (get_or rows i d).member in
     let P : SplitRow → Type 0 = λ row. nat_eq m row.member ≡ false in
     let each : All P (take i rows) = λ k e less.
-        let long = length-take-le i rows (omega arith) in
-        let before : k < i = omega arith in
-        let at_k = get_or-map f rows k e e.member (omega arith) in
-        let at_i = get_or-map f rows i d e.member within in
-        let differ = apart_from_distinct nat_eq (map f rows) k i e.member h before (omega (arith, length-map rows f)) in
-        rw (get_or-take i rows k e before) (nat_eq_equiv.symm m (get_or rows k e).member ∙ (rw (at_k, at_i) at differ)) in
+    let long = length-take-le i rows (omega arith) in
+    let before : k < i = omega arith in
+    let at_k = get_or-map f rows k e e.member (omega arith) in
+    let at_i = get_or-map f rows i d e.member within in
+    let differ = apart_from_distinct nat_eq (map f rows) k i e.member h before (omega (arith, length-map rows f)) in
+    rw (get_or-take i rows k e before) (nat_eq_equiv.symm m (get_or rows k e).member ∙ (rw (at_k, at_i) at differ)) in
     list_any_none (nat_eq m) (members_so_far (take i rows) color) (All-map (λ x. nat_eq m x ≡ false) f (filter (λ row. int_eq row.color color) (take i rows)) (All-filter (λ row. int_eq row.color color) P (take i rows) each))
 
 pub no_member : (rows : List SplitRow) (color : ℤ) (m : ℕ) → is_member nat_eq (members_so_far rows color) m ≡ false → is_member nat_eq (unwrap_or (gathered rows color) []) m ≡ false
@@ -155,9 +155,9 @@ map_twice f g (x ∷ xs) = ap (λ l. f (g x) ∷ l) (map_twice f g xs)
 pub split_gathered : (rows ordered : List SplitRow) → IsSortedBy lower ordered → IsStableBy lower rows ordered → (found : ℤ → Option (List ℕ)) → ((color : ℤ) → found color ≡ gathered ordered color) → map found (map (λ row. row.color) rows) ≡ split_groups rows
 split_gathered rows ordered up stable found h =
     let each : All (λ row. found row.color ≡ group_of_color rows row.color) rows =
-        All-weaker (λ row. 0 < length (of_color rows row.color)) (λ row. found row.color ≡ group_of_color rows row.color) (λ row own.
-            let p : SplitRow → Bool = λ other. int_eq other.color row.color in
-            let chosen = ap (map (λ r. r.member)) (chosen_by_key p rows ordered up stable) in
-            let long : 0 < length (members_of_color rows row.color) = omega (arith, length-map (by_key (filter p rows)) (λ r. r.member), length_by_key (filter p rows), own) in
-            h row.color ∙ ap (λ l. cond (int_eq row.color (negsuc 0)) None (some_of l)) chosen ∙ defined_group (int_eq row.color (negsuc 0)) (members_of_color rows row.color) long) rows (has_own rows) in
+    All-weaker (λ row. 0 < length (of_color rows row.color)) (λ row. found row.color ≡ group_of_color rows row.color) (λ row own.
+    let p : SplitRow → Bool = λ other. int_eq other.color row.color in
+    let chosen = ap (map (λ r. r.member)) (chosen_by_key p rows ordered up stable) in
+    let long : 0 < length (members_of_color rows row.color) = omega (arith, length-map (by_key (filter p rows)) (λ r. r.member), length_by_key (filter p rows), own) in
+    h row.color ∙ ap (λ l. cond (int_eq row.color (negsuc 0)) None (some_of l)) chosen ∙ defined_group (int_eq row.color (negsuc 0)) (members_of_color rows row.color) long) rows (has_own rows) in
     map_twice found (λ row. row.color) rows ∙ map_agree (λ row. found row.color) (λ row. group_of_color rows row.color) rows each

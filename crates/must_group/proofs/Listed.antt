@@ -129,9 +129,9 @@ member_listed : (members : List ℕ) (listed : List ℤ) → IsDistinct nat_eq m
 member_listed members listed h good k d in_k =
     let f : ℤ → ℕ = λ rank. slice_index members (nat_abs rank) in
     let each : All (λ rank. nat_eq (get_or members k d) (f rank) ≡ int_eq (pos k) rank) listed = λ i e within.
-        let at = good_at (length members) listed good i within in
-        let same : get_or listed i e ≡ get_or listed i (pos 0) = get_or_default listed i e (pos 0) within in
-        rw same (listed_alike members h k d in_k (get_or listed i (pos 0)) at.within at.named) in
+    let at = good_at (length members) listed good i within in
+    let same : get_or listed i e ≡ get_or listed i (pos 0) = get_or_default listed i e (pos 0) within in
+    rw same (listed_alike members h k d in_k (get_or listed i (pos 0)) at.within at.named) in
     any_map (nat_eq (get_or members k d)) f listed ∙ any_agree (λ rank. nat_eq (get_or members k d) (f rank)) (int_eq (pos k)) listed each
 
 -- a filter by a test of the elements, and by a test of their places
@@ -158,8 +158,8 @@ found_first p i (suc m) none here within =
     find-append p (below m) (m ∷ []) ∙
     ⊎_elim
     (λ e. let none_m : find p (below m) ≡ None = ap (λ n. find p (below n)) (sym e) ∙ none in
-        let here_m : p m ≡ true = ap p (sym e) ∙ here in
-        rw (none_m, here_m) (ap Some (sym e)))
+    let here_m : p m ≡ true = ap p (sym e) ∙ here in
+    rw (none_m, here_m) (ap Some (sym e)))
     (λ lower. rw (found_first p i m none here lower) refl)
     (cases_last i m within)
 
@@ -176,10 +176,10 @@ marked_more seen listed i position in_list in_seen names marks k within =
     let more = list_any_more (int_eq (pos k)) listed i (pos 0) in_list in
     ⊎_elim
     (λ e. let yes : int_eq (pos k) (slice_index_or listed i (pos 0)) ≡ true = (Decides-int_eq (pos k) (slice_index_or listed i (pos 0))).1 (ap pos e ∙ sym names) in
-        let left : get_or (set seen position true) k false ≡ true = ap (λ n. get_or (set seen position true) n false) e ∙ get_or-set_same seen position true false in_seen in
-        left ∙ sym (or_right (is_member int_eq (take i listed) (pos k)) (int_eq (pos k) (slice_index_or listed i (pos 0))) yes) ∙ sym more)
+    let left : get_or (set seen position true) k false ≡ true = ap (λ n. get_or (set seen position true) n false) e ∙ get_or-set_same seen position true false in_seen in
+    left ∙ sym (or_right (is_member int_eq (take i listed) (pos k)) (int_eq (pos k) (slice_index_or listed i (pos 0))) yes) ∙ sym more)
     (λ ne. let no : int_eq (pos k) (slice_index_or listed i (pos 0)) ≡ false = false_from_ne_true (int_eq (pos k) (slice_index_or listed i (pos 0))) (λ yes. let e : pos k ≡ pos position = (Decides-int_eq (pos k) (slice_index_or listed i (pos 0))).0 yes ∙ names in ne (cc)) in
-        get_or-set_other seen position k true false ne ∙ marks k within ∙ sym (or_false (is_member int_eq (take i listed) (pos k))) ∙ sym (more ∙ ap (λ b. is_member int_eq (take i listed) (pos k) || b) no))
+    get_or-set_other seen position k true false ne ∙ marks k within ∙ sym (or_false (is_member int_eq (take i listed) (pos k))) ∙ sym (more ∙ ap (λ b. is_member int_eq (take i listed) (pos k) || b) no))
     (cases_eq k position)
 
 -- what makes a place bad, or good
@@ -257,12 +257,12 @@ first_bad_small n listed k fits h =
     let size : length (map nat_abs (take k listed)) ≡ k = length-map (take k listed) nat_abs ∙ long in
     let at : (i d : ℕ) → i < k → get_or (map nat_abs (take k listed)) i d ≡ nat_abs (get_or listed i (pos 0)) = λ i d less. get_or-map nat_abs (take k listed) i (pos 0) d (omega arith) ∙ ap nat_abs (get_or-take k listed i (pos 0) less) in
     let small : All (λ x. x < 2 ^ 31) (map nat_abs (take k listed)) = λ i d within.
-        let less : i < k = omega arith in
-        let good = good_place n listed i (found.before i less) in
-        rw (at i d less) (small_position (get_or listed i (pos 0)) (fits i less) good.named) in
+    let less : i < k = omega arith in
+    let good = good_place n listed i (found.before i less) in
+    rw (at i d less) (small_position (get_or listed i (pos 0)) (fits i less) good.named) in
     let apart : IsDistinct nat_eq (map nat_abs (take k listed)) = IsDistinct-from_apart nat_eq (map nat_abs (take k listed)) (λ i j d before within.
-        let less : j < k = omega arith in
-        let one = good_place n listed i (found.before i (omega arith)) in
-        let two = good_place n listed j (found.before j less) in
-        rw (at i d (omega arith), at j d less) (ne_eqb _ _ (positions_apart n listed i j before (omega (arith, found.within)) one two))) in
+    let less : j < k = omega arith in
+    let one = good_place n listed i (found.before i (omega arith)) in
+    let two = good_place n listed j (found.before j less) in
+    rw (at i d (omega arith), at j d less) (ne_eqb _ _ (positions_apart n listed i j before (omega (arith, found.within)) one two))) in
     omega (arith, length-le_from_distinct_below (map nat_abs (take k listed)) (2 ^ 31) apart (all_below (map nat_abs (take k listed)) (2 ^ 31) small))

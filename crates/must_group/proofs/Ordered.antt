@@ -143,4 +143,4 @@ filter_comm p q (row ∷ rows) = comm_by (q row) (p row) p q row rows refl refl 
 pub chosen_by_key : (p : SplitRow → Bool) (rows ordered : List SplitRow) → IsSortedBy lower ordered → IsStableBy lower rows ordered → filter p ordered ≡ by_key (filter p rows)
 chosen_by_key p rows ordered up stable =
     one_order (filter p ordered) (by_key (filter p rows)) (rises_sorted (filter p ordered) (IsSortedBy-filter lower order p ordered up)) (rises_by_key (filter p rows)) (λ row.
-        filter_comm (ties lower row) p ordered ∙ ap (λ l. filter p l) (stable row) ∙ filter_comm p (ties lower row) rows ∙ sym (stable_by_key row (filter p rows)))
+    filter_comm (ties lower row) p ordered ∙ ap (λ l. filter p l) (stable row) ∙ filter_comm p (ties lower row) rows ∙ sym (stable_by_key row (filter p rows)))

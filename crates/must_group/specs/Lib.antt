@@ -1,2 +1,4 @@
 pub mod Groups
+pub mod NameOrder
+pub mod Names
 pub mod Split

@@ -89,7 +89,11 @@ impl Group {
         ensures { IfOk result (λ g. g ≡ intersection self.now other.now) }
     {
         let others = Lookup::of(alloc, &other.ranks)?;
-        let shared = self.ranks.iter().copied().filter(|rank| others.contains(*rank));
+        let shared = self
+            .ranks
+            .iter()
+            .copied()
+            .filter(|rank| others.contains(*rank));
         let ranks = shared.collect(alloc)?;
         Ok(Group { ranks })
     }
@@ -99,7 +103,11 @@ impl Group {
         ensures { IfOk result (λ g. g ≡ difference self.now other.now) }
     {
         let others = Lookup::of(alloc, &other.ranks)?;
-        let own = self.ranks.iter().copied().filter(|rank| !others.contains(*rank));
+        let own = self
+            .ranks
+            .iter()
+            .copied()
+            .filter(|rank| !others.contains(*rank));
         let ranks = own.collect(alloc)?;
         Ok(Group { ranks })
     }

@@ -14,7 +14,11 @@ fn position_of(members: usize, rank: i32) -> Option<usize>
         return None;
     }
     let position = rank as usize;
-    if position < members { Some(position) } else { None }
+    if position < members {
+        Some(position)
+    } else {
+        None
+    }
 }
 
 /// The first bad place, by a mark for each position that was listed.

@@ -43,5 +43,5 @@ loop-place-preserved c =
       none = none_more _ c.loop-place.place c.loop-place.invariant.none good;
       small = below_more (λ k. SFits w32 (slice_index_or c.args.listed.now k (pos 0))) c.loop-place.place c.loop-place.invariant.small fits;
       long = long ∙ c.loop-place.invariant.long;
-      marks = λ k within. marked_more c.loop-place.seen c.args.listed.now c.loop-place.place c.in-Some.position c.loop-place-test.true in_seen at.is c.loop-place.invariant.marks k (omega (arith, long, within))
+      marks = λ k within. marked_more c.loop-place.seen c.args.listed.now c.loop-place.place c.in-Some.position c.loop-place-test.true in_seen at.is c.loop-place.invariant.marks k (omega (arith, long, within));
     }

@@ -12,5 +12,5 @@ invariant-loop-place l = record {
   none : find (is_bad_at l.members l.listed) (below l.place) ≡ None;
   small : (k : ℕ) → k < l.place → SFits w32 (get_or l.listed k (pos 0));
   long : length l.seen ≡ 1024;
-  marks : (k : ℕ) → k < length l.seen → get_or l.seen k false ≡ is_member int_eq (take l.place l.listed) (pos k)
+  marks : (k : ℕ) → k < length l.seen → get_or l.seen k false ≡ is_member int_eq (take l.place l.listed) (pos k);
 }

@@ -12,10 +12,10 @@ returns-then-is_none c =
     let fits : SFits w32 (slice_index_or c.args.listed.now c.loop-place.place (pos 0)) = search rules in
     let read = rw (to_z-of_z w32 _ fits) at c.position_of.ensures in
     let bad : is_bad_at c.args.members c.args.listed.now c.loop-place.place ≡ true =
-        elim c.then-is_none.branch [
-          then-is_none-via-then-is_none w ↦ bad_by_position c.args.members c.args.listed.now c.loop-place.place (ap is_some (sym read) ∙ w.if-is_none.ensures)
-        | then-is_none-via-else-is_none+then-contains w ↦ bad_by_member c.args.members c.args.listed.now c.loop-place.place (sym (contains_is (take c.loop-place.place c.args.listed.now) _) ∙ sym w.contains.ensures.value ∙ w.if-contains.true)
-        ] in
+    elim c.then-is_none.branch [
+      | then-is_none-via-then-is_none w ↦ bad_by_position c.args.members c.args.listed.now c.loop-place.place (ap is_some (sym read) ∙ w.if-is_none.ensures)
+      | then-is_none-via-else-is_none+then-contains w ↦ bad_by_member c.args.members c.args.listed.now c.loop-place.place (sym (contains_is (take c.loop-place.place c.args.listed.now) _) ∙ sym w.contains.ensures.value ∙ w.if-contains.true)
+    ] in
     let first = found_first _ c.loop-place.place (length c.args.listed.now) c.loop-place.invariant.none bad c.loop-place-test.true in
     record { first = sym first; small = first_bad_small c.args.members c.args.listed.now c.loop-place.place c.loop-place.invariant.small first }
 
@@ -26,5 +26,5 @@ loop-place-preserved c =
     let out = sym (contains_is (take c.loop-place.place c.args.listed.now) _) ∙ sym c.contains.ensures.value ∙ c.if-contains.false in
     record {
       none = none_more (is_bad_at c.args.members c.args.listed.now) c.loop-place.place c.loop-place.invariant.none (good_by_both c.args.members c.args.listed.now c.loop-place.place (ap is_some (sym read) ∙ c.if-is_none.ensures) out);
-      small = below_more (λ k. SFits w32 (slice_index_or c.args.listed.now k (pos 0))) c.loop-place.place c.loop-place.invariant.small fits
+      small = below_more (λ k. SFits w32 (slice_index_or c.args.listed.now k (pos 0))) c.loop-place.place c.loop-place.invariant.small fits;
     }

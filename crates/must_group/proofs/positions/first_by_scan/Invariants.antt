@@ -8,5 +8,5 @@ use Rattle.must_group.proofs.positions.first_by_scan.Given as goal
 abbrev pub invariant-loop-place : goal.invariant-loop-place
 invariant-loop-place l = record {
   none : find (is_bad_at l.members l.listed) (below l.place) ≡ None;
-  small : (k : ℕ) → k < l.place → SFits w32 (get_or l.listed k (pos 0))
+  small : (k : ℕ) → k < l.place → SFits w32 (get_or l.listed k (pos 0));
 }

@@ -34,13 +34,13 @@ loop-row-preserved c = λ color.
     let own = c.loop-row.invariant row.color in
     let old = c.loop-row.invariant color in
     elim c.if-is_defined.branch [
-      then-is_defined+in_ok-join w ↦
-        let joined = w.in_ok-join.ensures color in
-        let defined = not-true (int_eq row.color (negsuc 0)) (sym w.if-is_defined.ensures) in
-        rw w.groups-is (joined ∙ rw (own, old) (sym (gathered_join rows c.loop-row.row-index past c.loop-row-test.true defined color)))
-    | else-is_defined w ↦
-        let undefined = not-false (int_eq row.color (negsuc 0)) (sym w.if-is_defined.ensures) in
-        rw w.groups-is (old ∙ sym (gathered_skip rows c.loop-row.row-index past c.loop-row-test.true undefined color))
+      | then-is_defined+in_ok-join w ↦
+          let joined = w.in_ok-join.ensures color in
+          let defined = not-true (int_eq row.color (negsuc 0)) (sym w.if-is_defined.ensures) in
+          rw w.groups-is (joined ∙ rw (own, old) (sym (gathered_join rows c.loop-row.row-index past c.loop-row-test.true defined color)))
+      | else-is_defined w ↦
+          let undefined = not-false (int_eq row.color (negsuc 0)) (sym w.if-is_defined.ensures) in
+          rw w.groups-is (old ∙ sym (gathered_skip rows c.loop-row.row-index past c.loop-row-test.true undefined color))
     ]
 
 pub returns : goal.returns
