@@ -1,12 +1,13 @@
 -- Lists of distinct ranks.
-use Rattle.std.proofs.Common.{◌≡◌, ℕ, Bool, true, false, not, ◌||◌, cond, List, [], ◌∷◌, ◌++◌, sym, ◌∙◌, nat_eq}
+use Rattle.std.proofs.Common.{◌≡◌, refl, ap, ℕ, ◌+◌, ◌<◌, length, get_or, take, Bool, true, false, not, ◌||◌, cond, List, [], ◌∷◌, ◌++◌, sym, ◌∙◌, nat_eq}
 use Rattle.std.specs.Prelude.{filter}
 use Rattle.std.specs.Cmp.{nat_eq_equiv}
 use Rattle.std.specs.List.{list_any, All, AllByRecursion, IsDistinct}
 use Rattle.std.specs.Set.{is_member}
 use Rattle.std.proofs.lemmas.Bool.{not-true, or_parts}
 use Rattle.std.proofs.lemmas.List.Elements.{All-from_recursion, recursion_from_All, All-append, All-filter, All-weaker, All-head, All-tail, filter_passes}
-use Rattle.std.proofs.lemmas.Map.Keys.{IsDistinct-cons, IsDistinct-head, IsDistinct-tail}
+use Rattle.std.proofs.lemmas.Map.Keys.{IsDistinct-cons, IsDistinct-head, IsDistinct-tail, IsDistinct-push}
+use Rattle.std.proofs.lemmas.List.{take_more}
 use Rattle.must_group.specs.Groups.{union, difference}
 
 kept_distinct : (b : Bool) (x : ℕ) (ys : List ℕ) → AllByRecursion (λ y. nat_eq x y ≡ false) ys → IsDistinct nat_eq ys → IsDistinct nat_eq (cond b (x ∷ ys) ys)
@@ -42,3 +43,11 @@ union_distinct xs ys d e = append_distinct xs (difference ys xs) d e (difference
 pub nil_distinct : IsDistinct nat_eq []
 unfolding IsDistinct
 nil_distinct = tt
+
+any_flipped : (ys : List ℕ) (x : ℕ) → list_any (nat_eq x) ys ≡ list_any (λ y. nat_eq y x) ys
+any_flipped [] x = refl
+any_flipped (y ∷ ys) x = ap (λ b. b || list_any (nat_eq x) ys) (nat_eq_equiv.symm x y) ∙ ap (λ b. nat_eq y x || b) (any_flipped ys x)
+
+-- one more element, which none before is equal to
+pub distinct_more : (xs : List ℕ) (i : ℕ) → i < length xs → IsDistinct nat_eq (take i xs) → list_any (λ y. nat_eq y (get_or xs i 0)) (take i xs) ≡ false → IsDistinct nat_eq (take (i + 1) xs)
+distinct_more xs i within h absent = rw (take_more xs i 0 within) (IsDistinct-push nat_eq_equiv (take i xs) (get_or xs i 0) h (any_flipped (take i xs) (get_or xs i 0) ∙ absent))

@@ -125,7 +125,7 @@ listed_alike : (members : List ℕ) → IsDistinct nat_eq members → (k d : ℕ
 listed_alike members h k d in_k (negsuc m) in_m e = absurd (cc)
 listed_alike members h k d in_k (pos m) in_m e = ⊎_elim (λ same. equal_alike members k m d in_k same) (λ ne. differ_alike members h k m d in_k in_m ne) (cases_eq k m)
 
-member_listed : (members : List ℕ) (listed : List ℤ) → IsDistinct nat_eq members → first_bad (length members) listed ≡ None → (k d : ℕ) → k < length members → is_member nat_eq (incl members listed) (get_or members k d) ≡ is_member int_eq listed (pos k)
+pub member_listed : (members : List ℕ) (listed : List ℤ) → IsDistinct nat_eq members → first_bad (length members) listed ≡ None → (k d : ℕ) → k < length members → is_member nat_eq (incl members listed) (get_or members k d) ≡ is_member int_eq listed (pos k)
 member_listed members listed h good k d in_k =
     let f : ℤ → ℕ = λ rank. slice_index members (nat_abs rank) in
     let each : All (λ rank. nat_eq (get_or members k d) (f rank) ≡ int_eq (pos k) rank) listed = λ i e within.
@@ -218,21 +218,22 @@ pub contains_is : (xs : List ℤ) (x : ℤ) → list_any (λ y. int_eq y x) xs �
 contains_is xs x = any_agree (λ y. int_eq y x) (int_eq x) xs (λ k d within. int_eq_equiv.symm (get_or xs k d) x)
 
 -- what a search below a number found
-lone_found : (n k : ℕ) (b : Bool) → cond b (Some n) None ≡ Some k → k ≡ n
-lone_found n k true h = cc
+lone_found : (n k : ℕ) (b : Bool) → cond b (Some n) None ≡ Some k → (k ≡ n) × (b ≡ true)
+lone_found n k true h = (cc, refl)
 lone_found n k false h = absurd (cc)
 
 pub record Found (p : ℕ → Bool) (n k : ℕ) : Type 0 where
   pub within : k < n
+  pub here : p k ≡ true
   pub before : (j : ℕ) → j < k → p j ≡ false
 
 found_either : (o : Option ℕ) (p : ℕ → Bool) (n k : ℕ) → find p (below n) ≡ o → (o ≡ Some k → Found p n k) → option_or o (find p (n ∷ [])) ≡ Some k → Found p (suc n) k
 found_either (Some j) p n k e lower h =
     let f = lower h in
-    record { within = omega (arith, f.within); before = f.before }
+    record { within = omega (arith, f.within); here = f.here; before = f.before }
 found_either None p n k e lower h =
     let last = lone_found n k (p n) h in
-    record { within = omega arith; before = λ j less. none_below p n e j (omega arith) }
+    record { within = omega (arith, last.0); here = ap p last.0 ∙ last.1; before = λ j less. none_below p n e j (omega (arith, last.0)) }
 
 pub found_below : (p : ℕ → Bool) (n k : ℕ) → find p (below n) ≡ Some k → Found p n k
 found_below p zero k h = absurd (cc)

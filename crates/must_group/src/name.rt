@@ -20,18 +20,22 @@ use std::sync::Arc;
 const LONGEST_PATH: usize = 32;
 
 /// One step from a communicator to one that a collective call on it made.
-#[derive(Clone, Copy, Debug, PartialEq, Eq, PartialOrd, Ord)]
-pub struct Step {
+#[derive(Clone, Copy, PartialEq, Eq, PartialOrd, Ord)]
+pub(crate) struct Step {
     /// The number of the making call among the collectives of the communicator.
     pub number: u32,
-    /// Tells apart the communicators that one call makes at its ranks.
+    /// Tells apart the communicators of one call: 0 for a duplicate, the color of a split, the first member of a created one.
     pub class: i32,
 }
 
-/// The name of a communicator, which tells it from all others of a run.
+/// The name of a communicator, by which its calls at all ranks are told to be on one communicator.
 ///
 /// A name is a root, a path and the members. The root is 0 for `MPI_COMM_WORLD` and 1 for `MPI_COMM_SELF`. The path has a step
-/// for each collective on the way from the root. Path and members are shared by all copies.
+/// for each collective call on the way from the root. Path and members are shared by all copies.
+///
+/// Names are ordered by root, then path, then members. Of two lists the first difference decides, and a proper prefix comes
+/// first. Steps are ordered by number, then class. Two names compare as equal exactly where they are equal, so a name can be the
+/// key of an ordered map.
 #[derive(Drop)]
 pub struct CommName {
     root: u8,
@@ -51,14 +55,15 @@ impl Model for CommName {
 }
 
 impl CommName {
-    /// The name of a root.
+    /// The name of a root, which has an empty path.
     pub fn start(alloc: Global, root: u8, members: Group) -> Result<CommName, NoMemory>
         ensures { IfOk result (λ name. name ≡ record { root = root; path = []; members = members }) }
     {
         named(alloc, root, Vec::new(alloc), members)
     }
 
-    /// An equal name, which shares path and members.
+    /// An equal name, which shares path and members, so it takes no memory. `NoMemory` comes only where there are too many copies
+    /// to count.
     pub fn copy(&self) -> Result<CommName, NoMemory>
         ensures { IfOk result (λ name. name ≡ self.now) }
     {
