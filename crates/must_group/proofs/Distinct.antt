@@ -1,11 +1,11 @@
 -- Lists of distinct ranks.
-use Rattle.std.proofs.Common.{◌≡◌, refl, ap, ℕ, ◌+◌, ◌<◌, length, get_or, take, Bool, true, false, not, ◌||◌, cond, List, [], ◌∷◌, ◌++◌, sym, ◌∙◌, nat_eq}
+use Rattle.std.proofs.Common.{◌≡◌, refl, ap, ℕ, ◌+◌, ◌<◌, length, get_or, take, Bool, true, false, not, ◌||◌, cond, List, [], ◌∷◌, ◌++◌, ◌∙◌, nat_eq}
 use Rattle.std.specs.Prelude.{filter}
 use Rattle.std.specs.Cmp.{nat_eq_equiv}
 use Rattle.std.specs.List.{list_any, All, AllByRecursion, IsDistinct}
 use Rattle.std.specs.Set.{is_member}
 use Rattle.std.proofs.lemmas.Bool.{not-true, or_parts}
-use Rattle.std.proofs.lemmas.List.Elements.{All-from_recursion, recursion_from_All, All-append, All-filter, All-weaker, All-head, All-tail, filter_passes}
+use Rattle.std.proofs.lemmas.List.Elements.{All-from_recursion, recursion_from_All, All-append, All-filter, All-weaker, filter_passes}
 use Rattle.std.proofs.lemmas.Map.Keys.{IsDistinct-cons, IsDistinct-head, IsDistinct-tail, IsDistinct-push}
 use Rattle.std.proofs.lemmas.List.{take_more}
 use Rattle.must_group.specs.Groups.{union, difference}

@@ -1,17 +1,16 @@
 -- Lists of positions in a group.
-use Rattle.std.proofs.Common.{◌≡◌, ◌≢◌, ℕ, zero, suc, ◌+◌, ◌<◌, ◌≤◌, ◌⊎◌, ⊎_elim, Bool, true, false, not, ◌||◌, cond, List, [], ◌∷◌, ◌++◌, map, length, get_or, take, Option, Some, None, is_none, is_some, ◌^◌, sym, refl, ap, subst, ◌∙◌, arith, nat_eq, nat_lt, nat_abs, ℤ, pos, negsuc, set, add-one, slice_index_or, slice_index}
+use Rattle.std.proofs.Common.{◌≡◌, ℕ, zero, suc, ◌+◌, ◌<◌, ◌⊎◌, ⊎_elim, Bool, true, false, not, ◌||◌, cond, List, [], ◌∷◌, ◌++◌, map, length, get_or, take, Option, Some, None, is_none, is_some, ◌^◌, sym, refl, ap, subst, ◌∙◌, arith, nat_eq, nat_lt, nat_abs, ℤ, pos, negsuc, set, add-one, slice_index_or, slice_index}
 use Rattle.std.specs.Prelude.{filter, find}
 use Rattle.std.specs.Option.{option_or}
 use Rattle.std.specs.Ordering.{int_eq}
 use Rattle.std.specs.Cmp.{nat_eq_equiv, int_eq_equiv}
 use Rattle.std.specs.List.{list_any, All, IsDistinct, enumerate_from}
 use Rattle.std.specs.Set.{is_member}
-use Rattle.std.proofs.lemmas.Bool.{false≢true, true≢false, or_parts, or_left, or_right, or_from, ltb-true, lt-ltb, eq-eqb, eqb-true, ne_eqb, cases_lt, cases_eq, cases_order, false_from_ne_true}
+use Rattle.std.proofs.lemmas.Bool.{true≢false, or_parts, or_left, or_right, or_from, ltb-true, eqb-true, ne_eqb, cases_eq, cases_order, false_from_ne_true}
 use Rattle.std.proofs.lemmas.Bool.Decides.{Decides-int_eq, Decides-eqb}
 use Rattle.std.proofs.lemmas.List.{get_or-map, get_or-take, length-take-le, length-map, get_or_default}
 use Rattle.std.proofs.lemmas.List.Folds.{find-append, list_any_at, list_any_more, Any-from_list_any}
 use Rattle.std.proofs.lemmas.Map.Keys.{apart_from_distinct, IsDistinct-from_apart}
-use Rattle.std.proofs.lemmas.Bool.Decides.{same_from_decides}
 use Rattle.std.proofs.lemmas.Int.{to_z-of_z}
 use Rattle.std.proofs.lemmas.List.{take_more, map-append, get_or-set_same, get_or-set_other}
 use Rattle.std.proofs.lemmas.List.Elements.{All-head, All-tail}

@@ -1,6 +1,6 @@
 -- The order of rows is the only one by key with ties as they were, and what decides between two names.
-use Rattle.std.proofs.Common.{◌≡◌, ◌↔◌, ℕ, zero, suc, ◌+◌, ◌<◌, ◌≤◌, Bool, true, false, cond, ℤ, List, [], ◌∷◌, ◌++◌, length, get_or, Less, Equal, Greater, sym, refl, ap, subst, ◌∙◌, arith, add-one, Ordering, eqb, T}
-use Rattle.std.specs.Prelude.{int_lt, nat_lt, IsPermutation, ◌<ℤ◌}
+use Rattle.std.proofs.Common.{◌≡◌, ℕ, zero, suc, ◌<◌, Bool, true, false, cond, ℤ, List, [], ◌∷◌, ◌++◌, length, get_or, Less, Equal, Greater, sym, refl, ap, subst, ◌∙◌, arith, add-one, Ordering, eqb, T}
+use Rattle.std.specs.Prelude.{int_lt, IsPermutation, ◌<ℤ◌}
 use Rattle.std.specs.Cmp.{IsTotalOrder, nat_cmp_total}
 use Rattle.std.specs.Cmp.Lexicographic.{slice_cmp}
 use Rattle.std.specs.List.Sorted.{IsSortedBy}
@@ -9,7 +9,6 @@ use Rattle.std.proofs.lemmas.Bool.{lt-ltb}
 use Rattle.std.proofs.lemmas.Cmp.{tied_itself}
 use Rattle.std.proofs.lemmas.List.Sorted.{IsPermutation-refl, IsPermutation-cons, IsPermutation-trans, IsPermutation-middle}
 use Rattle.must_group.specs.declared.splits.SplitRow.{SplitRow}
-use Rattle.must_group.specs.declared.name.Step.{Step}
 use Rattle.must_group.specs.Names.{Name, step_cmp, name_cmp}
 use Rattle.must_group.specs.NameOrder.{step_total}
 use Rattle.must_group.specs.NameLaws.{NamesRise}

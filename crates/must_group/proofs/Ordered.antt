@@ -1,11 +1,11 @@
 -- Rows in order of key.
-use Rattle.std.proofs.Common.{◌≡◌, ℕ, zero, suc, ◌<◌, ◌≤◌, Bool, true, false, not, ◌&&◌, cond, ℤ, List, [], ◌∷◌, ◌++◌, map, length, get_or, Less, Equal, Greater, sym, refl, ap, subst, ◌∙◌, arith}
-use Rattle.std.specs.Prelude.{filter, int_lt, IsSortedByKey}
+use Rattle.std.proofs.Common.{◌≡◌, ℕ, suc, ◌<◌, ◌≤◌, Bool, true, false, not, cond, List, [], ◌∷◌, length, get_or, Less, Equal, Greater, sym, refl, ap, subst, ◌∙◌, arith}
+use Rattle.std.specs.Prelude.{filter, int_lt}
 use Rattle.std.specs.Cmp.{IsStrictWeakOrder, int_cmp_total}
 use Rattle.std.specs.List.{All}
 use Rattle.std.specs.List.Sorted.{IsSortedBy, IsStableBy, ties}
 use Rattle.std.specs.Ordering.{is_lt, int_cmp}
-use Rattle.std.proofs.lemmas.Bool.{true≢false, false≢true, and_from, and_parts, not-true, not_from_false, cases_Bool}
+use Rattle.std.proofs.lemmas.Bool.{true≢false, and_from, and_parts, not-true, not_from_false}
 use Rattle.std.proofs.lemmas.List.Elements.{All-nil, All-cons, All-head, All-tail, All-filter, All-weaker}
 use Rattle.std.proofs.lemmas.List.Sorted.{ranks_by, sorted_far}
 use Rattle.std.proofs.lemmas.List.Kept.{IsSortedBy-filter}

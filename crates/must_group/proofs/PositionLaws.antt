@@ -1,12 +1,11 @@
 -- What lists of positions give, in the words of the standard.
-use Rattle.std.proofs.Common.{◌≡◌, ◌↔◌, ◌⊎◌, inl, inr, ⊎_elim, ℕ, zero, suc, ◌+◌, ◌<◌, ◌≤◌, Bool, true, false, not, ◌&&◌, ◌||◌, cond, ℤ, pos, negsuc, List, [], ◌∷◌, ◌++◌, map, length, take, get_or, Option, Some, None, is_none, sym, refl, ap, subst, ◌∙◌, arith, nat_eq, nat_lt, nat_abs, slice_index, slice_index_or}
-use Rattle.std.specs.Prelude.{filter, find, Contains, ◌≤ℤ◌, ◌<ℤ◌, IfSome, Decides}
-use Rattle.std.specs.Option.{option_or}
+use Rattle.std.proofs.Common.{◌≡◌, inl, inr, ⊎_elim, ℕ, zero, suc, ◌+◌, ◌<◌, ◌≤◌, Bool, true, false, not, ◌&&◌, cond, ℤ, pos, negsuc, List, [], ◌∷◌, length, take, get_or, Option, Some, None, is_none, sym, refl, ap, ◌∙◌, arith, nat_eq, nat_lt, nat_abs, slice_index, slice_index_or}
+use Rattle.std.specs.Prelude.{find, Contains, IfSome, Decides}
 use Rattle.std.specs.Cmp.{nat_eq_equiv, int_eq_equiv, signed_Decides}
-use Rattle.std.specs.List.{list_any, All, IsDistinct}
+use Rattle.std.specs.List.{All, IsDistinct}
 use Rattle.std.specs.Ordering.{int_eq}
 use Rattle.std.specs.Set.{is_member}
-use Rattle.std.proofs.lemmas.Bool.{true≢false, lt-ltb, cases_Bool, or_from, or_parts, or_cases, false_from_ne_true}
+use Rattle.std.proofs.lemmas.Bool.{true≢false, lt-ltb, or_from, or_cases, false_from_ne_true}
 use Rattle.std.proofs.lemmas.Bool.Decides.{Decides-not}
 use Rattle.std.proofs.lemmas.Int.{ints}
 use Rattle.std.proofs.lemmas.List.{get_or-map, length-map, get_or_default, get_or-take, length-take-le, take_all}
@@ -14,10 +13,10 @@ use Rattle.std.proofs.lemmas.List.Elements.{All-contains}
 use Rattle.std.proofs.lemmas.List.Folds.{find-append, list_any_at, list_any_none}
 use Rattle.std.proofs.lemmas.Map.Keys.{apart_from_distinct, IsDistinct-from_apart}
 use Rattle.std.proofs.lemmas.Map.Made.{is_member-Decides, length-from_same_keys, length-intersection_difference}
-use Rattle.must_group.specs.Groups.{position_of, is_bad_at, below, first_bad, incl, excl, difference, intersection}
-use Rattle.must_group.specs.GroupLaws.{IsPosition, ValidLaw, FirstBadLaw, IsFirstBad, InclLaw, ExclLaw, KeepsOrder}
+use Rattle.must_group.specs.Groups.{position_of, is_bad_at, below, first_bad, incl, difference, intersection}
+use Rattle.must_group.specs.GroupLaws.{IsPosition, ValidLaw, FirstBadLaw, IsFirstBad, InclLaw, ExclLaw}
 use Rattle.must_group.proofs.Distinct.{filter_distinct}
-use Rattle.must_group.proofs.Listed.{IsGood, good_at, good_place, none_below, incl_distinct, excl_is, member_listed, Found, found_below}
+use Rattle.must_group.proofs.Listed.{good_at, good_place, none_below, incl_distinct, excl_is, member_listed, found_below}
 use Rattle.must_group.proofs.SetLaws.{member, difference_member, intersection_member, filter_order}
 
 pub incl_law : InclLaw

@@ -1,8 +1,7 @@
 -- What the set operations give, in the words of the standard.
-use Rattle.std.proofs.Common.{◌≡◌, ◌↔◌, ◌⊎◌, ℕ, zero, suc, ◌+◌, ◌<◌, ◌≤◌, Bool, true, false, not, ◌&&◌, ◌||◌, cond, List, [], ◌∷◌, ◌++◌, length, take, drop, sym, refl, ap, ◌∙◌, arith, nat_eq, slice_index}
+use Rattle.std.proofs.Common.{◌≡◌, ◌↔◌, ℕ, zero, suc, ◌<◌, Bool, true, false, not, ◌&&◌, ◌||◌, cond, List, [], ◌∷◌, ◌++◌, length, sym, refl, ap, ◌∙◌, arith, nat_eq}
 use Rattle.std.specs.Prelude.{filter, Contains, Decides}
 use Rattle.std.specs.Cmp.{nat_eq_equiv, unsigned_Decides}
-use Rattle.std.specs.List.{list_any, IsDistinct}
 use Rattle.std.specs.Set.{is_member}
 use Rattle.std.proofs.lemmas.Bool.Decides.{Decides-at, Decides-or, Decides-and, Decides-not}
 use Rattle.std.proofs.lemmas.List.{append_assoc, take_at, drop_at}
@@ -10,7 +9,7 @@ use Rattle.std.proofs.lemmas.List.Elements.{filter-append, filter_agree}
 use Rattle.std.proofs.lemmas.List.Folds.{list_any-append}
 use Rattle.std.proofs.lemmas.Map.Made.{is_member-filter, is_member-Decides}
 use Rattle.must_group.specs.Groups.{union, intersection, difference}
-use Rattle.must_group.specs.GroupLaws.{PlaceIn, PlacesIn, KeepsOrder, IsUnionOf, IsIntersectionOf, IsDifferenceOf, Associates, UnionLaw, IntersectionLaw, DifferenceLaw}
+use Rattle.must_group.specs.GroupLaws.{PlaceIn, PlacesIn, KeepsOrder, Associates, UnionLaw, IntersectionLaw, DifferenceLaw}
 use Rattle.must_group.proofs.Distinct.{filter_distinct, union_distinct}
 
 -- a filter keeps the order

@@ -1,5 +1,5 @@
 -- The operations on groups in the words of the standard (MPI 3.1 section 6.3.2), whatever computes them.
-use Rattle.std.specs.Prelude.{◌≡◌, ◌↔◌, ◌⊎◌, ℕ, ◌+◌, ◌<◌, ◌≤◌, ℤ, pos, ◌≤ℤ◌, ◌<ℤ◌, List, [], take, drop, length, Contains, All, Option, None, Some, IfSome, nat_eq, nat_abs, slice_index, slice_index_or}
+use Rattle.std.specs.Prelude.{◌≡◌, ◌↔◌, ◌⊎◌, ℕ, ◌+◌, ◌<◌, ℤ, pos, ◌≤ℤ◌, ◌<ℤ◌, List, take, drop, length, Contains, All, None, IfSome, nat_eq, nat_abs, slice_index, slice_index_or}
 use Rattle.std.specs.List.{IsDistinct}
 use Rattle.std.specs.Ordering.{int_eq}
 use Rattle.must_group.specs.Groups.{union, intersection, difference, first_bad, incl, excl}
@@ -45,7 +45,7 @@ pub record IsDifferenceOf (first second left : List ℕ) : Type 0 where
 abbrev pub DifferenceLaw : Type 0
 DifferenceLaw = (first second : List ℕ) → IsDistinct nat_eq first → IsDifferenceOf first second (difference first second)
 
--- union and intersection are associative, and neither is commutative
+-- union and intersection are associative
 pub record Associates : Type 0 where
   pub unions : (a b c : List ℕ) → union (union a b) c ≡ union a (union b c)
   pub intersections : (a b c : List ℕ) → intersection (intersection a b) c ≡ intersection a (intersection b c)

@@ -1,5 +1,5 @@
 -- The groups that a split of a communicator makes (MPI 3.1 section 6.4.2).
-use Rattle.std.specs.Prelude.{ℕ, Bool, ℤ, negsuc, List, [], ◌∷◌, map, filter, Option, None, Some, if◌then◌else◌, int_lt, slice_get}
+use Rattle.std.specs.Prelude.{ℕ, ℤ, negsuc, List, [], ◌∷◌, map, filter, Option, None, Some, if◌then◌else◌, int_lt, slice_get}
 use Rattle.std.specs.Option.{option_flatten}
 use Rattle.std.specs.Ordering.{int_eq}
 use Rattle.must_group.specs.declared.splits.SplitRow.{SplitRow}

@@ -1,7 +1,9 @@
 //! Worked examples. What is expected comes from the rules of the standard, not from the program.
 
-ghost use Rattle.std.specs.Prelude.{◌≡◌, nat_eq, true};
+ghost use Rattle.std.specs.Prelude.{◌≡◌, nat_eq, true, Some, OnOk};
+ghost use Rattle.std.specs.BTreeMap as tree;
 ghost use Rattle.std.specs.List.{IsDistinct};
+ghost use Rattle.must_group.specs.Names.{name_cmp};
 
 use crate::{CommName, Group, Groups, NameFault, SplitRow, split};
 use must_base::NoMemory;
@@ -249,14 +251,22 @@ fn names_in_order(rt: HostRuntime) -> Result<(), Fail> {
     Ok(())
 }
 
+/// Counts a call on a communicator, by its name.
+fn count(calls: &mut BTreeMap<CommName, u32>, name: CommName, number: u32) -> Result<(), NoMemory>
+    ensures { OnOk result (tree.get name_cmp calls.new name ≡ Some number) }
+{
+    calls.insert(name, number)?;
+    Ok(())
+}
+
 #[test]
 fn names_as_keys(rt: HostRuntime) -> Result<(), Fail> {
     let alloc = rt.alloc();
     let world = CommName::start(alloc, 0, first_ranks(&rt, alloc, 3)?)?;
     let half = world.child(alloc, 4, -1, group(&rt, alloc, &[2, 0])?)?;
     let mut seen = BTreeMap::new(alloc);
-    seen.insert(world.copy()?, 1u32)?;
-    seen.insert(half.copy()?, 2u32)?;
+    count(&mut seen, world.copy()?, 1)?;
+    count(&mut seen, half.copy()?, 2)?;
     assert_eq!(rt; seen.get(&world).copied(), Some(1));
     assert_eq!(rt; seen.get(&half).copied(), Some(2));
     assert_eq!(rt; half.copy()?.members().ranks(), [2, 0].as_slice());

@@ -1,9 +1,8 @@
-use Rattle.std.proofs.Common.{◌≡◌, ◌∙◌, refl, sym, ap, rules, arith, ◌<◌, length, slice_index_or, pos, is_some, is_none, Some, None, true, false, below_more}
+use Rattle.std.proofs.Common.{◌∙◌, refl, sym, ap, rules, arith, ◌<◌, length, slice_index_or, pos, is_some, true, false, below_more}
 use Rattle.std.proofs.lemmas.Int.{to_z-of_z}
 use Rattle.std.proofs.lemmas.List.{get_or-replicate, length-set}
 use mir.Val.{SFits}
 use mir.Syntax.{w32}
-use Rattle.must_group.specs.Groups.{position_of}
 use Rattle.must_group.proofs.Listed.{found_first, none_more, marked_more, bad_by_position, bad_by_member, good_by_both, named, first_bad_small}
 use Rattle.must_group.proofs.positions.first_by_marks.Goals as goal
 

@@ -1,4 +1,4 @@
-use Rattle.std.proofs.Common.{◌≡◌, ◌∙◌, refl, sym, ap, rules, arith, ◌<◌, length, slice_index_or, pos, is_some, is_none, Some, None, true, false, take, below_more}
+use Rattle.std.proofs.Common.{◌≡◌, ◌∙◌, sym, ap, rules, length, slice_index_or, pos, is_some, true, take, below_more}
 use Rattle.std.proofs.lemmas.Int.{to_z-of_z}
 use mir.Val.{SFits}
 use mir.Syntax.{w32}

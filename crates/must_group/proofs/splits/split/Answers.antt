@@ -1,4 +1,4 @@
-use Rattle.std.proofs.Common.{◌≡◌, ◌∙◌, refl, sym, ap, arith, ℤ, negsuc, true, false, ◌<◌, length, take, ℕ, map, nat_eq, List, not, slice_index_or, pos}
+use Rattle.std.proofs.Common.{◌≡◌, ◌∙◌, sym, ap, arith, negsuc, take, map, nat_eq, slice_index_or, pos}
 use Rattle.std.specs.Prelude.{IsPermutation}
 use Rattle.std.specs.BTreeMap as tree
 use Rattle.std.specs.Cmp.{nat_eq_equiv}

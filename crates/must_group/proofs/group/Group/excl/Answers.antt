@@ -1,7 +1,7 @@
-use Rattle.std.proofs.Common.{◌≡◌, sym, ap, ◌∙◌, ℕ, List, nat_eq}
+use Rattle.std.proofs.Common.{◌≡◌, ap, ◌∙◌, ℕ, List, nat_eq}
 use Rattle.std.specs.List.{IsDistinct}
 use Rattle.std.proofs.lemmas.Result.{IfOk-weaker}
-use Rattle.must_group.specs.Groups.{difference, incl, excl}
+use Rattle.must_group.specs.Groups.{difference, excl}
 use Rattle.must_group.proofs.Listed.{excl_is}
 use Rattle.must_group.proofs.group.Group.excl.Goals as goal
 

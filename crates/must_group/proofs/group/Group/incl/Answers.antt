@@ -1,7 +1,6 @@
-use Rattle.std.proofs.Common.{◌≡◌, ◌<◌, ℤ, pos, nat_abs, length, slice_index_or, sym, ap, ◌∙◌, arith, rules, vec_len, take, [], ◌∷◌, ◌++◌}
+use Rattle.std.proofs.Common.{pos, length, slice_index_or, ap, arith, rules, take, [], ◌∷◌, ◌++◌}
 use Rattle.std.proofs.lemmas.Int.{to_z-of_z}
 use Rattle.std.proofs.lemmas.List.{take_all, get_or_read}
-use Rattle.std.specs.Prelude.{FitsSigned}
 use mir.Val.{SFits}
 use mir.Syntax.{w32}
 use Rattle.must_group.specs.Groups.{incl}

@@ -1,4 +1,4 @@
-use Rattle.std.proofs.Common.{◌≡◌, refl, ◌++◌, rules, ap, sym, ◌∙◌}
+use Rattle.std.proofs.Common.{◌≡◌, refl, rules, ap, sym, ◌∙◌}
 use Rattle.must_group.specs.Groups.{union, difference}
 use Rattle.must_group.proofs.Distinct.{union_distinct}
 use Rattle.must_group.proofs.group.Group.union.Goals as goal
