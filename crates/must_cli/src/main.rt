@@ -5,6 +5,9 @@
 //! findings and their report.
 #![tactic(auto)]
 
+ghost use Rattle.std.specs.Prelude.{◌≡◌};
+ghost use Rattle.must_cli.specs.declared.WordsFault.TheVariants.{NoMemory as OutOfMemory};
+
 mod command;
 mod judge;
 mod line;
@@ -31,6 +34,8 @@ enum WordsFault {
 }
 
 impl From<NoMemory> for WordsFault {
+    ghost from_gives = { λ _ e. e ≡ OutOfMemory };
+
     fn from(_e: NoMemory) -> WordsFault {
         WordsFault::NoMemory
     }
