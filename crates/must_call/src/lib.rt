@@ -4,6 +4,7 @@
 //! module a family. No call of this crate takes memory; each takes constant time.
 #![tactic(auto)]
 
+mod basic;
 mod call;
 mod frame;
 mod kind;
@@ -11,6 +12,7 @@ mod place;
 mod point;
 mod status;
 
+pub use basic::Basic;
 pub use call::{Body, Call};
 pub use frame::Frame;
 pub use kind::Kind;

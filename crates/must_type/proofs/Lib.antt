@@ -1,0 +1,13 @@
+mod Reach
+mod Rising
+mod Rows
+mod Distances
+mod FormLaws
+mod Laid
+mod Layouts
+mod Parts
+mod Settled
+mod SlotLaws
+mod Spans
+mod Summed
+mod Weights

@@ -1,0 +1,11 @@
+pub mod Constructs
+pub mod Facts
+pub mod Falls
+pub mod Laws
+pub mod Maps
+pub mod Summaries
+pub mod Table
+pub mod Tree
+pub mod TreeCode
+pub mod TypesCode
+pub mod View

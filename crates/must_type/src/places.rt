@@ -1,0 +1,104 @@
+//! Where the blocks of an indexed form begin, and how long they are.
+
+ghost use Rattle.std.specs.Prelude.{◌≡◌, ℕ, ℤ, ◌≤◌, ◌^◌, ◌*ℤ◌, pos};
+ghost use Rattle.must_type.specs.Maps.{IsBounded};
+ghost use Rattle.must_type.specs.Constructs.{natural, IsCount};
+
+use crate::construct::{HindexItem, IndexItem};
+use crate::summary::times;
+
+/// A count that isn't negative.
+pub(crate) fn natural(n: i32) -> u32
+    requires { IsCount n }
+    ensures value { result ≡ natural n }
+    ensures few { result ≤ 2 ^ 31 }
+{
+    n as u32
+}
+
+/// An item of a list of blocks.
+pub(crate) trait Place {
+    /// The item's numbers are allowed.
+    ghost allowed: { Self → Type 0 };
+
+    /// The length of its block, where items without one have the given length.
+    ghost length: { Self → ℕ → ℕ };
+
+    /// Where its block begins, in bytes, by the old type's extent.
+    ghost at: { Self → ℤ → ℤ };
+
+    fn block_length(&self, common: u32) -> u32
+        requires allowed { allowed self.now }
+        requires common { common ≤ 2 ^ 31 }
+        ensures value { result ≡ length self.now common }
+        ensures few { result ≤ 2 ^ 31 };
+
+    fn begins(&self, extent: i128) -> i128
+        requires near { IsBounded (2 ^ 63) extent }
+        ensures value { result ≡ at self.now extent }
+        ensures bounded { IsBounded (2 ^ 94) result };
+}
+
+impl Place for IndexItem {
+    ghost allowed = { λ it. IsCount it.block };
+
+    ghost length = { λ it _. natural it.block };
+
+    ghost at = { λ it extent. it.disp *ℤ extent };
+
+    fn block_length(&self, _common: u32) -> u32 {
+        natural(self.block)
+    }
+
+    fn begins(&self, extent: i128) -> i128 {
+        times(i128::from(self.disp), extent)
+    }
+}
+
+impl Place for HindexItem {
+    ghost allowed = { λ it. IsCount it.block };
+
+    ghost length = { λ it _. natural it.block };
+
+    ghost at = { λ it _. it.disp };
+
+    fn block_length(&self, _common: u32) -> u32 {
+        natural(self.block)
+    }
+
+    fn begins(&self, _extent: i128) -> i128 {
+        i128::from(self.disp)
+    }
+}
+
+impl Place for i32 {
+    ghost allowed = { λ _. Unit {0} };
+
+    ghost length = { λ _ common. common };
+
+    ghost at = { λ disp extent. disp *ℤ extent };
+
+    fn block_length(&self, common: u32) -> u32 {
+        common
+    }
+
+    fn begins(&self, extent: i128) -> i128 {
+        times(i128::from(*self), extent)
+    }
+}
+
+impl Place for i64 {
+    ghost allowed = { λ _. Unit {0} };
+
+    ghost length = { λ _ common. common };
+
+    ghost at = { λ disp _. disp };
+
+    fn block_length(&self, common: u32) -> u32 {
+        common
+    }
+
+    fn begins(&self, _extent: i128) -> i128 {
+        i128::from(*self)
+    }
+}
