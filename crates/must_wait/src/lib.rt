@@ -1,0 +1,10 @@
+//! Wait states: the replay of a run's calls by what they need, and the deadlock core (docs/WAITING.md).
+//!
+//! `replay` and `core` take time and memory linear in ranks, calls, alternatives and places together.
+#![tactic(auto)]
+
+mod lists;
+mod rows;
+
+pub use lists::{Needs, Places};
+pub use rows::Rows;
