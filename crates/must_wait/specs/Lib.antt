@@ -1,3 +1,4 @@
 pub mod Needs
 pub mod Replay
 pub mod Core
+pub mod Counted

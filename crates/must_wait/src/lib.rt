@@ -4,6 +4,7 @@
 #![tactic(auto)]
 
 mod lists;
+mod progress;
 mod rows;
 
 pub use lists::{Needs, Places};
