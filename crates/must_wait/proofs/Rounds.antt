@@ -95,14 +95,14 @@ mark_more done at rank call h e = elim (cases_order rank at) [
   | inr (inr more) ↦ inl (subst (λ n. nat_lt call n ≡ true) (get_or-set_other done at rank (get_or done at 0 + 1) 0 (λ q. omega arith)) e)
 ]
 
-sum_more : (done : List ℕ) (at : ℕ) → at < length done → sum (set done at (slice_index done at + 1)) ≡ suc (sum done)
+pub sum_more : (done : List ℕ) (at : ℕ) → at < length done → sum (set done at (slice_index done at + 1)) ≡ suc (sum done)
 sum_more done at h = omega (arith, sum_by-set (λ (n : ℕ). n) done at (get_or done at 0 + 1) 0 h)
 
 way_is_call : (rows : Rows) (m : Marks) (rank call : ℕ) (needs : Option Needs) → needs_of rows rank call ≡ needs → some_way rows m needs ≡ true → is_some needs ≡ true
 way_is_call rows m rank call None e w = absurd (true≢false (sym w))
 way_is_call rows m rank call (Some ways) e w = refl
 
-some_get : {X : Type 0} (xs : List X) (k : ℕ) → is_some (slice_get xs k) ≡ true → k < length xs
+pub some_get : {X : Type 0} (xs : List X) (k : ℕ) → is_some (slice_get xs k) ≡ true → k < length xs
 some_get [] k e = absurd (true≢false (sym e))
 some_get (x ∷ xs) zero e = omega arith
 some_get (x ∷ xs) (suc k) e = omega (arith, some_get xs k e)
@@ -147,7 +147,7 @@ closed_round rows done closed (suc round) rank call e =
       | inr (inr more) ↦ absurd (omega arith)
     ]
 
-sum_fits : (done : List ℕ) (rows : Rows) → length done ≡ length rows → ((rank : ℕ) → slice_index done rank ≤ length (calls_of rows rank)) → sum done ≤ call_count rows
+pub sum_fits : (done : List ℕ) (rows : Rows) → length done ≡ length rows → ((rank : ℕ) → slice_index done rank ≤ length (calls_of rows rank)) → sum done ≤ call_count rows
 sum_fits [] [] e h = omega arith
 sum_fits (d ∷ done) [] e h = absurd (omega arith)
 sum_fits [] (calls ∷ rows) e h = absurd (omega arith)
@@ -167,7 +167,7 @@ passed_from rows done s rank call e =
     let k = some_more (sum done) (call_count rows) few in
     much_later rows k.0 (sum done) (call_count rows) k.1 rank call (s.sound rank call e)
 
-get_some : {X : Type 0} (xs : List X) (k : ℕ) → k < length xs → is_some (slice_get xs k) ≡ true
+pub get_some : {X : Type 0} (xs : List X) (k : ℕ) → k < length xs → is_some (slice_get xs k) ≡ true
 get_some [] k h = absurd (omega arith)
 get_some (x ∷ xs) zero h = refl
 get_some (x ∷ xs) (suc k) h = get_some xs k (omega arith)

@@ -2,3 +2,4 @@ pub mod Needs
 pub mod Replay
 pub mod Core
 pub mod Counted
+pub mod Watching

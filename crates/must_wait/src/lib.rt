@@ -6,6 +6,7 @@
 mod lists;
 mod progress;
 mod rows;
+mod worklist;
 
 pub use lists::{Needs, Places};
 pub use rows::Rows;

@@ -1,14 +1,22 @@
-//! A replay under way: which calls are reached, and which alternative lets a call pass.
+//! Where a replay stands, and which places are reached there.
 
-ghost use Rattle.std.specs.Prelude.{◌≡◌, ◌<◌, ◌≤◌, ◌^◌, ◌+◌, ℕ, length, Some, true, false, MatchOption, slice_index, slice_get, IfOk, replicate};
-ghost use Rattle.std.specs.List.{list_all, slice_index_or};
-ghost use Rattle.must_call.specs.declared.place.Place.{Place};
+ghost use Rattle.std.specs.Prelude.{◌≡◌, length, is_some};
 ghost use Rattle.must_wait.specs.Counted.{counted};
-ghost use Rattle.must_wait.specs.Replay.{reached, some_way};
+ghost use Rattle.must_wait.specs.Needs.{needs_of};
+ghost use Rattle.must_wait.specs.Replay.{reached};
 
-use crate::lists::{Needs, Places};
 use crate::rows::RankRow;
 use must_call::Place;
+
+/// Whether a place is a call.
+pub(crate) fn is_call(rows: &[RankRow], place: Place) -> bool
+    ensures { result ≡ is_some (needs_of rows.now place.rank place.call) }
+{
+    match rows.get(place.rank as usize) {
+        Some(row) => (place.call as usize) < row.calls().len(),
+        None => false,
+    }
+}
 
 /// Whether a place is a reached call, where so many calls of each rank are passed.
 pub(crate) fn is_reached(rows: &[RankRow], done: &[u32], place: Place) -> bool
@@ -20,20 +28,4 @@ pub(crate) fn is_reached(rows: &[RankRow], done: &[u32], place: Place) -> bool
         Some(row) => (place.call as usize) < row.calls().len() && place.call <= done[rank],
         None => false,
     }
-}
-
-/// Whether all places of an alternative are reached.
-fn is_open(rows: &[RankRow], done: &[u32], way: &Places) -> bool
-    requires { length done.now ≡ length rows.now }
-    ensures { result ≡ list_all (λ p. reached rows.now (counted done.now) p.rank p.call) way.now }
-{
-    way.items().iter().all(|place| is_reached(rows, done, *place))
-}
-
-/// Whether a call with these needs passes once it is reached.
-pub(crate) fn has_way(rows: &[RankRow], done: &[u32], needs: &Needs) -> bool
-    requires { length done.now ≡ length rows.now }
-    ensures { result ≡ some_way rows.now (counted done.now) (Some needs.now) }
-{
-    needs.items().iter().any(|way| is_open(rows, done, way))
 }

@@ -1,6 +1,6 @@
 //! The needs of a run's calls.
 
-ghost use Rattle.std.specs.Prelude.{◌≡◌, ◌<◌, ◌^◌, ◌++◌, ◌∷◌, [], length, slice_set, replicate, IfOk, OnOk, OnErr};
+ghost use Rattle.std.specs.Prelude.{◌≡◌, ℕ, ◌<◌, ◌≤◌, ◌^◌, ◌++◌, ◌∷◌, [], length, slice_set, replicate, IfOk, OnOk, OnErr};
 ghost use Rattle.std.specs.Option.{option_copied};
 ghost use Rattle.must_wait.specs.Needs.{calls_of, needs_of};
 
@@ -40,14 +40,15 @@ impl RankRow {
 }
 
 impl Model for Rows {
-    ghost use Rattle.std.specs.Prelude.{List, length, ◌<◌, ◌^◌};
+    ghost use Rattle.std.specs.Prelude.{List, length, ◌<◌, ◌≤◌, ◌^◌, ℕ};
     ghost use Rattle.must_call.specs.declared.place.Place.{Place};
+    ghost use Rattle.must_wait.specs.Needs.{calls_of};
 
     ghost Value = { List (List (List (List Place))) };
 
     ghost view = { λ r. r.ranks.items };
 
-    ghost invariant = { λ r. length r.ranks.items < 2 ^ 32 };
+    ghost invariant = { λ r. (length r.ranks.items < 2 ^ 32) × ((rank : ℕ) → length (calls_of r.ranks.items rank) ≤ 2 ^ 31) };
 }
 
 impl Rows {
@@ -95,7 +96,8 @@ impl Rows {
     /// Lends the rows of all ranks.
     pub(crate) fn as_slice(&self) -> &[RankRow]
         ensures rows { result.now ≡ self.now }
-        ensures count { length self.now < 2 ^ 32 }
+        ensures ranks { length self.now < 2 ^ 32 }
+        ensures calls { (rank : ℕ) → length (calls_of self.now rank) ≤ 2 ^ 31 }
     {
         &self.ranks
     }
