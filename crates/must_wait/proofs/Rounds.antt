@@ -183,12 +183,48 @@ blocked_next rows done s closed place b =
         | inr (inl less) ↦ absurd (true≢false (sym (passed_from rows done s place.rank place.call (lt-ltb place.call (slice_index done place.rank) less)) ∙ b.not_passed))
         | inr (inr more) ↦ absurd (omega arith)
       ];
-      is_call = some_get (calls_of rows place.rank) place.call (and_left call (follows (passed rows) place.rank place.call) b.is_reached);
+      is_call = and_left call (follows (passed rows) place.rank place.call) b.is_reached;
     }
 
 pub next_blocked : (rows : Rows) (done : List ℕ) → IsSound rows done → IsClosed rows done → (place : Place) → IsNext rows done place → IsBlocked rows place
 next_blocked rows done s closed place n = record {
-  is_reached = and_both (is_some (needs_of rows place.rank place.call)) (follows (passed rows) place.rank place.call) (get_some (calls_of rows place.rank) place.call n.is_call)
+  is_reached = and_both (is_some (needs_of rows place.rank place.call)) (follows (passed rows) place.rank place.call) n.is_call
       (follows_more (counted done) (passed rows) (passed_from rows done s) place.rank place.call (follows_from done place.rank place.call (omega (arith, n.next))));
   not_passed = false_from_ne_true (passed rows place.rank place.call) (λ e. let less = ltb-true place.call (slice_index done place.rank) (passed_to rows done closed place.rank place.call e) in absurd (omega (arith, n.next)));
 }
+
+-- what is passed is passed up to a call
+one_before : (rows : Rows) (round rank call : ℕ) → passed_in rows round rank (suc call) ≡ true → passed_in rows round rank call ≡ true
+one_before rows zero rank call e = absurd (true≢false (sym e))
+one_before rows (suc round) rank call e =
+    let m = passed_in rows round in
+    let r = and_left (reached rows m rank (suc call)) (some_way rows m (needs_of rows rank (suc call))) e in
+    one_later rows round rank call (and_right (is_some (needs_of rows rank (suc call))) (m rank call) r)
+
+all_before : (rows : Rows) (round rank early late : ℕ) → early ≤ late → passed_in rows round rank late ≡ true → passed_in rows round rank early ≡ true
+all_before rows round rank early zero h e = subst (λ k. passed_in rows round rank k ≡ true) (let same : zero ≡ early = omega arith in same) e
+all_before rows round rank early (suc late) h e = elim (cases_order early (suc late)) [
+  | inl same ↦ subst (λ k. passed_in rows round rank k ≡ true) (sym same) e
+  | inr (inl less) ↦ all_before rows round rank early late (omega arith) (one_before rows round rank late e)
+  | inr (inr more) ↦ absurd (omega arith)
+]
+
+-- of a blocked rank the calls up to the blocked one are reached, and no others
+pub reached_to : (rows : Rows) (rank at call : ℕ) → IsBlocked rows (record { rank = rank; call = at }) → reached rows (passed rows) rank call ≡ true → call ≤ at
+reached_to rows rank at zero b e = omega arith
+reached_to rows rank at (suc call) b e = elim (cases_order call at) [
+  | inl same ↦ absurd (true≢false (sym (subst (λ k. passed rows rank k ≡ true) same (and_right (is_some (needs_of rows rank (suc call))) (passed rows rank call) e)) ∙ b.not_passed))
+  | inr (inl less) ↦ omega arith
+  | inr (inr more) ↦ absurd (true≢false (sym (all_before rows (call_count rows) rank at call (omega arith) (and_right (is_some (needs_of rows rank (suc call))) (passed rows rank call) e)) ∙ b.not_passed))
+]
+
+follows_before : (rows : Rows) (rank at call : ℕ) → call ≤ at → follows (passed rows) rank at ≡ true → follows (passed rows) rank call ≡ true
+follows_before rows rank at zero h e = refl
+follows_before rows rank zero (suc call) h e = absurd (omega arith)
+follows_before rows rank (suc at) (suc call) h e = all_before rows (call_count rows) rank call at (omega arith) e
+
+pub reached_from : (rows : Rows) (rank at call : ℕ) → IsBlocked rows (record { rank = rank; call = at }) → call ≤ at → reached rows (passed rows) rank call ≡ true
+reached_from rows rank at call b h =
+    let is_call = some_get (calls_of rows rank) at (and_left (is_some (needs_of rows rank at)) (follows (passed rows) rank at) b.is_reached) in
+    and_both (is_some (needs_of rows rank call)) (follows (passed rows) rank call) (get_some (calls_of rows rank) call (omega arith))
+        (follows_before rows rank at call h (and_right (is_some (needs_of rows rank at)) (follows (passed rows) rank at) b.is_reached))

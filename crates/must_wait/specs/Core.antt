@@ -15,10 +15,10 @@ blocked_at blocked rank = find (λ (p : Place). p.rank == rank) blocked
 abbrev pub holds : Rows → (ℕ → Bool) → Place → Bool
 holds rows kept place = not (reached rows (passed rows) place.rank place.call) && kept place.rank
 
--- a rank is held where its blocked call has an alternative, and each of them has a place that holds it
-abbrev pub is_held_by : Rows → (ℕ → Bool) → Option Needs → Bool
-is_held_by rows kept None = false
-is_held_by rows kept (Some ways) = list_any (λ way. true) ways && list_all (list_any (holds rows kept)) ways
+-- a call is held where it has an alternative, and each of them has a place that holds it
+abbrev pub is_held : (Place → Bool) → Option Needs → Bool
+is_held held None = false
+is_held held (Some ways) = not (length ways == 0) && list_all (list_any held) ways
 
 abbrev pub needs_at : Rows → Option Place → Option Needs
 needs_at rows None = None
@@ -27,7 +27,7 @@ needs_at rows (Some place) = needs_of rows place.rank place.call
 -- after so many rounds; at first all blocked ranks are kept
 abbrev pub kept_in : Rows → List Place → ℕ → ℕ → Bool
 kept_in rows blocked zero rank = is_some (blocked_at blocked rank)
-kept_in rows blocked (suc round) rank = kept_in rows blocked round rank && is_held_by rows (kept_in rows blocked round) (needs_at rows (blocked_at blocked rank))
+kept_in rows blocked (suc round) rank = kept_in rows blocked round rank && is_held (holds rows (kept_in rows blocked round)) (needs_at rows (blocked_at blocked rank))
 
 -- the core: the ranks that are kept after as many rounds as ranks
 abbrev pub IsCore : Rows → List Place → List ℕ → Type 0

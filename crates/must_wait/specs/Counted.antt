@@ -1,5 +1,5 @@
 -- A replay under way: how many calls of each rank are passed so far.
-use Rattle.std.specs.Prelude.{◌≡◌, ℕ, ◌≤◌, ◌<◌, Bool, true, false, List, length, slice_index, nat_lt, sum}
+use Rattle.std.specs.Prelude.{◌≡◌, ℕ, ◌≤◌, ◌<◌, Bool, true, false, List, length, slice_index, nat_lt, sum, is_some}
 use Rattle.must_call.specs.declared.place.Place.{Place}
 use Rattle.must_wait.specs.Needs.{Rows, needs_of, calls_of}
 use Rattle.must_wait.specs.Replay.{Marks, some_way, passed_in}
@@ -25,4 +25,4 @@ IsClosed rows done = (rank : ℕ) → some_way rows (counted done) (needs_of row
 -- the next call of a rank, where it has one
 pub record IsNext (rows : Rows) (done : List ℕ) (place : Place) : Type 0 where
   pub next : place.call ≡ slice_index done place.rank
-  pub is_call : place.call < length (calls_of rows place.rank)
+  pub is_call : is_some (needs_of rows place.rank place.call) ≡ true

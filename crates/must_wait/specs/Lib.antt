@@ -2,4 +2,5 @@ pub mod Needs
 pub mod Replay
 pub mod Core
 pub mod Counted
+pub mod Keeping
 pub mod Watching

@@ -5,8 +5,10 @@
 
 mod lists;
 mod progress;
+mod blocked;
 mod rows;
 mod worklist;
 
 pub use lists::{Needs, Places};
+pub use blocked::{Blocked, replay};
 pub use rows::Rows;
