@@ -51,7 +51,7 @@ pub way_more : (rows : Rows) (m n : Marks) → Within m n → (needs : Option Ne
 way_more rows m n more None e = e
 way_more rows m n more (Some ways) e =
     any_more (list_all (λ (p : Place). reached rows m p.rank p.call)) (list_all (λ (p : Place). reached rows n p.rank p.call)) ways
-        (λ way. all_more (λ (p : Place). reached rows m p.rank p.call) (λ (p : Place). reached rows n p.rank p.call) way (λ p. reached_more rows m n more p.rank p.call)) e
+    (λ way. all_more (λ (p : Place). reached rows m p.rank p.call) (λ (p : Place). reached rows n p.rank p.call) way (λ p. reached_more rows m n more p.rank p.call)) e
 
 next_more : (rows : Rows) (m n : Marks) → Within m n → Within (next_round rows m) (next_round rows n)
 next_more rows m n more rank call e =
@@ -84,13 +84,13 @@ mark_more : (done : List ℕ) (at rank call : ℕ) → at < length done → coun
     → (counted done rank call ≡ true) ⊎ ((rank ≡ at) × (call ≡ slice_index done at))
 mark_more done at rank call h e = elim (cases_order rank at) [
   | inl same ↦
-    let there : get_or (set done at (get_or done at 0 + 1)) rank 0 ≡ get_or done at 0 + 1 = ap (λ r. get_or (set done at (get_or done at 0 + 1)) r 0) same ∙ get_or-set_same done at (get_or done at 0 + 1) 0 h in
-    let below = ltb-true call (get_or (set done at (get_or done at 0 + 1)) rank 0) e in
-    elim (cases_order call (get_or done at 0)) [
-      | inl equal ↦ inr (same, equal)
-      | inr (inl less) ↦ inl (subst (λ r. counted done r call ≡ true) (sym same) (lt-ltb call (get_or done at 0) less))
-      | inr (inr more) ↦ absurd (omega arith)
-    ]
+      let there : get_or (set done at (get_or done at 0 + 1)) rank 0 ≡ get_or done at 0 + 1 = ap (λ r. get_or (set done at (get_or done at 0 + 1)) r 0) same ∙ get_or-set_same done at (get_or done at 0 + 1) 0 h in
+      let below = ltb-true call (get_or (set done at (get_or done at 0 + 1)) rank 0) e in
+      elim (cases_order call (get_or done at 0)) [
+        | inl equal ↦ inr (same, equal)
+        | inr (inl less) ↦ inl (subst (λ r. counted done r call ≡ true) (sym same) (lt-ltb call (get_or done at 0) less))
+        | inr (inr more) ↦ absurd (omega arith)
+      ]
   | inr (inl less) ↦ inl (subst (λ n. nat_lt call n ≡ true) (get_or-set_other done at rank (get_or done at 0 + 1) 0 (λ q. omega arith)) e)
   | inr (inr more) ↦ inl (subst (λ n. nat_lt call n ≡ true) (get_or-set_other done at rank (get_or done at 0 + 1) 0 (λ q. omega arith)) e)
 ]
@@ -116,9 +116,9 @@ pass_sound rows done at s h w =
     let call = way_is_call rows (counted done) at here (needs_of rows at here) refl w in
     let within : here < length (calls_of rows at) = some_get (calls_of rows at) here call in
     let is_next : next_round rows (passed_in rows (sum done)) at here ≡ true =
-        and_both (reached rows (passed_in rows (sum done)) at here) (some_way rows (passed_in rows (sum done)) (needs_of rows at here))
-            (and_both (is_some (needs_of rows at here)) (follows (passed_in rows (sum done)) at here) call (follows_more (counted done) (passed_in rows (sum done)) s.sound at here (follows_from done at here (omega arith))))
-            (way_more rows (counted done) (passed_in rows (sum done)) s.sound (needs_of rows at here) w) in
+    and_both (reached rows (passed_in rows (sum done)) at here) (some_way rows (passed_in rows (sum done)) (needs_of rows at here))
+    (and_both (is_some (needs_of rows at here)) (follows (passed_in rows (sum done)) at here) call (follows_more (counted done) (passed_in rows (sum done)) s.sound at here (follows_from done at here (omega arith))))
+    (way_more rows (counted done) (passed_in rows (sum done)) s.sound (needs_of rows at here) w) in
     record {
       ranks = length-set done at (here + 1) ∙ s.ranks;
       calls = λ rank. elim (cases_order rank at) [
@@ -227,4 +227,4 @@ pub reached_from : (rows : Rows) (rank at call : ℕ) → IsBlocked rows (record
 reached_from rows rank at call b h =
     let is_call = some_get (calls_of rows rank) at (and_left (is_some (needs_of rows rank at)) (follows (passed rows) rank at) b.is_reached) in
     and_both (is_some (needs_of rows rank call)) (follows (passed rows) rank call) (get_some (calls_of rows rank) call (omega arith))
-        (follows_before rows rank at call h (and_right (is_some (needs_of rows rank at)) (follows (passed rows) rank at) b.is_reached))
+    (follows_before rows rank at call h (and_right (is_some (needs_of rows rank at)) (follows (passed rows) rank at) b.is_reached))

@@ -83,7 +83,7 @@ newly_reached rows done at rank call h unreached after =
     ] in
     elim (cases_order rank at) [
       | inl same ↦ (let there : slice_index more rank ≡ slice_index done at + 1 = ap (λ r. get_or more r 0) same ∙ get_or-set_same done at (slice_index done at + 1) 0 h in
-        let here : slice_index done rank ≡ slice_index done at = ap (λ r. get_or done r 0) same in (same, omega arith, is_call))
+          let here : slice_index done rank ≡ slice_index done at = ap (λ r. get_or done r 0) same in (same, omega arith, is_call))
       | inr (inl less) ↦ absurd (omega (arith, get_or-set_other done at rank (slice_index done at + 1) 0 (λ q. omega arith)))
       | inr (inr less) ↦ absurd (omega (arith, get_or-set_other done at rank (slice_index done at + 1) 0 (λ q. omega arith)))
     ]
@@ -101,9 +101,9 @@ still_pends rows s t at rank call p (inr h) = inr (p.old rank call h)
 still_pends rows s t at rank call p (inl unreached) = elim (cases_Bool (reached rows (counted t.done) rank call)) [
   | inr still ↦ inl still
   | inl after ↦
-    let n = newly_reached rows s.done at rank call p.in_done unreached (subst (λ d. reached rows (counted d) rank call ≡ true) p.done after) in
-    let here = p.new (subst (λ c. is_some (needs_of rows at c) ≡ true) n.1 (subst (λ r. is_some (needs_of rows r call) ≡ true) n.0 n.2)) in
-    inr (subst (λ r. HasPlace t.fresh r call) (sym n.0) (subst (λ c. HasPlace t.fresh at c) (sym n.1) here))
+      let n = newly_reached rows s.done at rank call p.in_done unreached (subst (λ d. reached rows (counted d) rank call ≡ true) p.done after) in
+      let here = p.new (subst (λ c. is_some (needs_of rows at c) ≡ true) n.1 (subst (λ r. is_some (needs_of rows r call) ≡ true) n.0 n.2)) in
+      inr (subst (λ r. HasPlace t.fresh r call) (sym n.0) (subst (λ c. HasPlace t.fresh at c) (sym n.1) here))
 ]
 
 other_done : (rows : Rows) (s t : State) (at rank : ℕ) → Passes rows s t at → (rank ≡ at → ⊥) → slice_index t.done rank ≡ slice_index s.done rank
@@ -121,16 +121,19 @@ still_waits rows s t at rank way places q p e x =
 pass_keeps : (rows : Rows) (s t : State) (at : ℕ) → Passes rows s t at → Keeps rows s t
 pass_keeps rows s t at p rank way = elim (cases_eq rank at) [
   | inl same ↦ inl (λ places e.
-    let there : slice_index t.done rank ≡ slice_index s.done at + 1 = ap (λ d. get_or d rank 0) p.done ∙ ap (λ r. get_or (set s.done at (slice_index s.done at + 1)) r 0) same ∙ get_or-set_same s.done at (slice_index s.done at + 1) 0 p.in_done in
-    let call = way_in_call (needs_of rows rank (slice_index t.done rank)) way places e in
-    let here = p.new (subst (λ c. is_some (needs_of rows at c) ≡ true) there (subst (λ r. is_some (needs_of rows r (slice_index t.done rank)) ≡ true) same call)) in
-    inl (subst (λ r. HasPlace t.fresh r (slice_index t.done rank)) (sym same) (subst (λ c. HasPlace t.fresh at c) (sym there) here)))
+      let there : slice_index t.done rank ≡ slice_index s.done at + 1 = ap (λ d. get_or d rank 0) p.done ∙ ap (λ r. get_or (set s.done at (slice_index s.done at + 1)) r 0) same ∙ get_or-set_same s.done at (slice_index s.done at + 1) 0 p.in_done in
+      let call = way_in_call (needs_of rows rank (slice_index t.done rank)) way places e in
+      let here = p.new (subst (λ c. is_some (needs_of rows at c) ≡ true) there (subst (λ r. is_some (needs_of rows r (slice_index t.done rank)) ≡ true) same call)) in
+      inl (subst (λ r. HasPlace t.fresh r (slice_index t.done rank)) (sym same) (subst (λ c. HasPlace t.fresh at c) (sym there) here)))
   | inr ne ↦
-    let same = other_done rows s t at rank p ne in
-    inr (same, λ w places e. elim (w places (subst (λ k. way_at rows rank k way ≡ Some places) same e)) [
-      | inl h ↦ inl (subst (λ k. HasPlace t.fresh rank k) (sym same) (p.old rank (slice_index s.done rank) h))
-      | inr (q, x) ↦ inr (q, still_waits rows s t at rank way places q p same x)
-    ])
+      let same = other_done rows s t at rank p ne in
+      inr (
+        same,
+        λ w places e. elim (w places (subst (λ k. way_at rows rank k way ≡ Some places) same e)) [
+          | inl h ↦ inl (subst (λ k. HasPlace t.fresh rank k) (sym same) (p.old rank (slice_index s.done rank) h))
+          | inr (q, x) ↦ inr (q, still_waits rows s t at rank way places q p same x)
+        ],
+      )
 ]
 
 abbrev pub passed_state : State → ℕ → List Place → State
@@ -158,10 +161,13 @@ pub wait_steps : (rows : Rows) (s : State) (watches : List (List Watch)) → IsR
     → ((at rank call way : ℕ) → HasWatch (slice_index_or s.watches at []) rank call way → HasWatch (slice_index_or watches at []) rank call way) → Steps rows s (waiting_state s watches)
 wait_steps rows s watches r len more = record {
   ready = record { sound = r.sound; firsts = r.firsts; slots = λ rank call e. omega (arith, r.slots rank call e); few = r.few; calls = r.calls };
-  keeps = λ rank way. inr (refl, λ w places e. elim (w places e) [
-    | inl h ↦ inl h
-    | inr (q, x) ↦ inr (q, record { among = x.among; pends = x.pends; watch = λ c. more (slot s q.rank q.call) rank (slice_index s.done rank) way (x.watch c) })
-  ]);
+  keeps = λ rank way. inr (
+    refl,
+    λ w places e. elim (w places e) [
+      | inl h ↦ inl h
+      | inr (q, x) ↦ inr (q, record { among = x.among; pends = x.pends; watch = λ c. more (slot s q.rank q.call) rank (slice_index s.done rank) way (x.watch c) })
+    ],
+  );
   fresh = omega arith;
 }
 
@@ -235,23 +241,23 @@ pass_push rows s at n p fresh r is way pr pc call e =
     let inside = rank_in rows at (slice_index s.done at) (call_with_way rows (counted s.done) (needs_of rows at (slice_index s.done at)) way) in
     let next : p.call ≡ slice_index s.done at + 1 = omega arith in
     subst (λ k. Steps rows s (counted_state s at (k + 1) fresh)) (sym is) (subst (λ f. Steps rows s (passed_state s at f)) (sym e) (pass_steps rows s at (s.fresh ++ p ∷ []) r inside way
-      (λ rank call h. place_more s.fresh p rank call h)
-      (λ c. subst (λ k. HasPlace (s.fresh ++ p ∷ []) at k) next (subst (λ k. HasPlace (s.fresh ++ p ∷ []) k p.call) pr (place_last s.fresh p)))
-      (λ rank here h. elim (place_or s.fresh p rank here h) [
-        | inl old ↦ r.calls rank here old
-        | inr (a, b) ↦ subst (λ k. is_some (needs_of rows k here) ≡ true) a (subst (λ k. is_some (needs_of rows p.rank k) ≡ true) b call)
-      ])
-      (omega (arith, length-append s.fresh (p ∷ [])))))
+    (λ rank call h. place_more s.fresh p rank call h)
+    (λ c. subst (λ k. HasPlace (s.fresh ++ p ∷ []) at k) next (subst (λ k. HasPlace (s.fresh ++ p ∷ []) k p.call) pr (place_last s.fresh p)))
+    (λ rank here h. elim (place_or s.fresh p rank here h) [
+      | inl old ↦ r.calls rank here old
+      | inr (a, b) ↦ subst (λ k. is_some (needs_of rows k here) ≡ true) a (subst (λ k. is_some (needs_of rows p.rank k) ≡ true) b call)
+    ])
+    (omega (arith, length-append s.fresh (p ∷ [])))))
 
 pub pass_last : (rows : Rows) (s : State) (at n : ℕ) → IsReady rows s → n ≡ slice_index s.done at → some_way rows (counted s.done) (needs_of rows at (slice_index s.done at)) ≡ true
     → is_some (needs_of rows at (n + 1)) ≡ false → Steps rows s (counted_state s at (n + 1) s.fresh)
 pass_last rows s at n r is way none =
     let inside = rank_in rows at (slice_index s.done at) (call_with_way rows (counted s.done) (needs_of rows at (slice_index s.done at)) way) in
     subst (λ k. Steps rows s (counted_state s at (k + 1) s.fresh)) (sym is) (pass_steps rows s at s.fresh r inside way
-      (λ rank call h. h)
-      (λ c. absurd (true≢false (sym c ∙ subst (λ k. is_some (needs_of rows at (k + 1)) ≡ false) is none)))
-      r.calls
-      (omega arith))
+    (λ rank call h. h)
+    (λ c. absurd (true≢false (sym c ∙ subst (λ k. is_some (needs_of rows at (k + 1)) ≡ false) is none)))
+    r.calls
+    (omega arith))
 
 pub wait_push : (rows : Rows) (s : State) (i : ℕ) (old new : List Watch) (w : Watch) → IsReady rows s → i < length s.watches → old ≡ get_or s.watches i old → new ≡ old ++ w ∷ [] → Steps rows s (waiting_state s (set s.watches i new))
 wait_push rows s i old new w r h is e =
@@ -279,31 +285,37 @@ rank_of_way rows rank call way places e = rank_in rows rank call (way_in_call (n
 -- looking at a call: its own alternatives, and those that were watched at it
 own_or_taken : (rows : Rows) (s : State) (p : Place) (rank way : ℕ) (places : List Place) → is_some (needs_of rows p.rank p.call) ≡ true → way_at rows rank (slice_index s.done rank) way ≡ Some places → IsWatched rows (with_fresh s p) rank way
     → IsWatched rows (taken s (slot s p.rank p.call)) rank way
-      ⊎ (((p.rank ≡ rank) × (p.call ≡ slice_index s.done rank)) ⊎ HasWatch (watches_at s (slot s p.rank p.call)) rank (slice_index s.done rank) way)
+    ⊎ (((p.rank ≡ rank) × (p.call ≡ slice_index s.done rank)) ⊎ HasWatch (watches_at s (slot s p.rank p.call)) rank (slice_index s.done rank) way)
 own_or_taken rows s p rank way places call is w = elim (w places is) [
   | inl h ↦ elim (place_or s.fresh p rank (slice_index s.done rank) h) [
     | inl old ↦ inl (λ others e. inl old)
     | inr e ↦ inr (inl e)
   ]
   | inr (q, x) ↦ elim (cases_Bool (is_some (needs_of rows q.rank q.call))) [
-    | inr none ↦ inl (λ others e. inr (q, record {
-      among = subst (λ l. Has l q) (let same : places ≡ others = cc in same) x.among;
-      pends = inl (rw none refl);
-      watch = λ c. absurd (true≢false (sym c ∙ none));
-    }))
+    | inr none ↦ inl (λ others e. inr (
+      q,
+      record {
+        among = subst (λ l. Has l q) (let same : places ≡ others = cc in same) x.among;
+        pends = inl (rw none refl);
+        watch = λ c. absurd (true≢false (sym c ∙ none));
+      },
+    ))
     | inl some ↦ elim (cases_eq (slot s q.rank q.call) (slot s p.rank p.call)) [
       | inl same ↦ inr (inr (subst (λ a. HasWatch (watches_at s a) rank (slice_index s.done rank) way) same (x.watch some)))
-      | inr ne ↦ inl (λ others e. inr (q, record {
-        among = subst (λ l. Has l q) (let same : places ≡ others = cc in same) x.among;
-        pends = elim x.pends [
-          | inl unreached ↦ inl unreached
-          | inr h ↦ elim (place_or s.fresh p q.rank q.call h) [
-            | inl old ↦ inr old
-            | inr (a, b) ↦ absurd (ne (ap (λ r. slot s r q.call) (sym a) ∙ ap (λ k. slot s p.rank k) (sym b)))
-          ]
-        ];
-        watch = λ c. subst (λ l. HasWatch l rank (slice_index s.done rank) way) (sym (get_or-set_other s.watches (slot s p.rank p.call) (slot s q.rank q.call) [] [] ne)) (x.watch c);
-      }))
+      | inr ne ↦ inl (λ others e. inr (
+        q,
+        record {
+          among = subst (λ l. Has l q) (let same : places ≡ others = cc in same) x.among;
+          pends = elim x.pends [
+            | inl unreached ↦ inl unreached
+            | inr h ↦ elim (place_or s.fresh p q.rank q.call h) [
+              | inl old ↦ inr old
+              | inr (a, b) ↦ absurd (ne (ap (λ r. slot s r q.call) (sym a) ∙ ap (λ k. slot s p.rank k) (sym b)))
+            ]
+          ];
+          watch = λ c. subst (λ l. HasWatch l rank (slice_index s.done rank) way) (sym (get_or-set_other s.watches (slot s p.rank p.call) (slot s q.rank q.call) [] [] ne)) (x.watch c);
+        },
+      ))
     ]
   ]
 ]
@@ -314,14 +326,14 @@ pub looked_at : (rows : Rows) (s t : State) (p : Place) → is_some (needs_of ro
 looked_at rows s t p call all keeps own woken rank way = elim (keeps rank way) [
   | inl w ↦ w
   | inr (same, f) ↦ (λ places e.
-    let is = subst (λ k. way_at rows rank k way ≡ Some places) same e in
-    elim (own_or_taken rows s p rank way places call is (all rank way)) [
-      | inl w ↦ f w places e
-      | inr (inl (a, b)) ↦
-        let here : way < length (ways_in (needs_of rows p.rank p.call)) = slice_get_within (ways_in (needs_of rows p.rank p.call)) way places (subst (λ r. way_at rows r p.call way ≡ Some places) (sym a) (subst (λ k. way_at rows rank k way ≡ Some places) (sym b) is)) in
-        subst (λ r. IsSettled rows t r p.call way) a (own way here) (b ∙ sym same) places e
-      | inr (inr h) ↦ woken rank (slice_index s.done rank) way h (sym same) places e
-    ])
+      let is = subst (λ k. way_at rows rank k way ≡ Some places) same e in
+      elim (own_or_taken rows s p rank way places call is (all rank way)) [
+        | inl w ↦ f w places e
+        | inr (inl (a, b)) ↦
+            let here : way < length (ways_in (needs_of rows p.rank p.call)) = slice_get_within (ways_in (needs_of rows p.rank p.call)) way places (subst (λ r. way_at rows r p.call way ≡ Some places) (sym a) (subst (λ k. way_at rows rank k way ≡ Some places) (sym b) is)) in
+            subst (λ r. IsSettled rows t r p.call way) a (own way here) (b ∙ sym same) places e
+        | inr (inr h) ↦ woken rank (slice_index s.done rank) way h (sym same) places e
+      ])
 ]
 
 pub each_watch : (ws : List Watch) (P : ℕ → ℕ → ℕ → Type 0) → ((k : ℕ) (d : Watch) → k < length ws → P (get_or ws k d).rank (get_or ws k d).call (get_or ws k d).way) → (rank call way : ℕ) → HasWatch ws rank call way → P rank call way
@@ -348,14 +360,14 @@ some_open rows m (Some ways) e = any_where (list_all (λ (p : Place). reached ro
 
 pub all_closed : (rows : Rows) (s : State) → AllWatched rows s → s.fresh ≡ [] → IsClosed rows s.done
 all_closed rows s all empty rank = false_from_ne_true (some_way rows (counted s.done) (needs_of rows rank (slice_index s.done rank))) (λ e.
-  let o = some_open rows (counted s.done) (needs_of rows rank (slice_index s.done rank)) e in
-  elim (all rank o.0 o.1 o.2) [
-    | inl h ↦ subst (λ l. HasPlace l rank (slice_index s.done rank)) empty h
-    | inr (q, x) ↦ elim x.pends [
-      | inl unreached ↦ true≢false (sym (all_has (λ (p : Place). reached rows (counted s.done) p.rank p.call) o.1 q o.3 x.among) ∙ unreached)
-      | inr h ↦ subst (λ l. HasPlace l q.rank q.call) empty h
-    ]
-  ])
+    let o = some_open rows (counted s.done) (needs_of rows rank (slice_index s.done rank)) e in
+    elim (all rank o.0 o.1 o.2) [
+      | inl h ↦ subst (λ l. HasPlace l rank (slice_index s.done rank)) empty h
+      | inr (q, x) ↦ elim x.pends [
+        | inl unreached ↦ true≢false (sym (all_has (λ (p : Place). reached rows (counted s.done) p.rank p.call) o.1 q o.3 x.among) ∙ unreached)
+        | inr h ↦ subst (λ l. HasPlace l q.rank q.call) empty h
+      ]
+    ])
 
 -- at the start
 zero_at : (n k : ℕ) → slice_index (replicate n 0) k ≡ 0
@@ -414,9 +426,9 @@ pub more_slots : (rows : Rows) (first : List ℕ) (at before after : ℕ) → le
     → (rank : ℕ) → rank < at + 1 → slice_index (first ++ before ∷ []) rank + length (calls_of rows rank) ≤ after
 more_slots rows first at before after len grown all rank less = elim (cases_order rank at) [
   | inl same ↦
-    let last : slice_index (first ++ before ∷ []) rank ≡ before = ap (λ r. get_or (first ++ before ∷ []) r 0) (same ∙ sym len) ∙ get_or-append_seam first before [] 0 in
-    let calls : length (calls_of rows rank) ≡ length (calls_of rows at) = ap (λ r. length (calls_of rows r)) same in
-    omega (arith, last, calls, grown)
+      let last : slice_index (first ++ before ∷ []) rank ≡ before = ap (λ r. get_or (first ++ before ∷ []) r 0) (same ∙ sym len) ∙ get_or-append_seam first before [] 0 in
+      let calls : length (calls_of rows rank) ≡ length (calls_of rows at) = ap (λ r. length (calls_of rows r)) same in
+      omega (arith, last, calls, grown)
   | inr (inl below) ↦ omega (arith, get_or-append first (before ∷ []) 0 rank (omega arith), all rank below)
   | inr (inr above) ↦ absurd (omega arith)
 ]

@@ -31,3 +31,12 @@ pub record IsKept (rows : Rows) (blocked : List Place) (rounds : ℕ) (kept : Li
 -- each kept rank is held
 abbrev pub AllHeld : Rows → List (Option ℕ) → Type 0
 AllHeld rows kept = (rank call : ℕ) → kept_call kept rank ≡ Some call → is_held (holds_yet kept) (needs_of rows rank call) ≡ true
+
+-- a rank is dropped, or its blocked call is held
+abbrev pub held_or_dropped : Rows → List (Option ℕ) → ℕ → Option ℕ → Bool
+held_or_dropped rows kept rank None = true
+held_or_dropped rows kept rank (Some call) = is_held (holds_yet kept) (needs_of rows rank call)
+
+-- after some rounds
+abbrev pub IsKeptSome : Rows → List Place → List (Option ℕ) → Type 0
+IsKeptSome rows blocked kept = (rounds : ℕ) × IsKept rows blocked rounds kept

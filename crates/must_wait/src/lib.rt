@@ -3,12 +3,16 @@
 //! `replay` and `core` take time and memory linear in ranks, calls, alternatives and places together.
 #![tactic(auto)]
 
+mod blocked;
+mod deadlock;
 mod lists;
 mod progress;
-mod blocked;
 mod rows;
+#[cfg(test)]
+mod tests;
 mod worklist;
 
-pub use lists::{Needs, Places};
 pub use blocked::{Blocked, replay};
+pub use deadlock::{RankSet, core};
+pub use lists::{Needs, Places};
 pub use rows::Rows;

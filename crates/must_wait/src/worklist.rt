@@ -58,7 +58,13 @@ pub(crate) struct Worklist {
 }
 
 /// The index from `low` and below `high` of the first place that isn't reached.
-fn unreached_between(rows: &[RankRow], done: &[u32], places: &[Place], low: usize, high: usize) -> Option<usize>
+fn unreached_between(
+    rows: &[RankRow],
+    done: &[u32],
+    places: &[Place],
+    low: usize,
+    high: usize,
+) -> Option<usize>
     requires done { length done.now ≡ length rows.now }
     requires high { high ≤ length places.now }
     ensures { MatchOption result

@@ -14,10 +14,10 @@ loop-rank-init c = subst (λ (l : List Place). Lists by_spot (NextBelow c.args.r
 pub loop-rank-preserved : goal.loop-rank-preserved
 loop-rank-preserved c = elim c.if-is_call.branch [
   | then-is_call+in_ok-push w ↦
-    next_push c.args.rows.now c.args.done.now c.loop-rank.rank c.loop-rank.items.items c.if-is_call.items.items _ refl refl (sym w.if-is_call.ensures) (ap (λ v. v.items) w.items-is ∙ w.in_ok-push.ensures.items) c.loop-rank.invariant
+      next_push c.args.rows.now c.args.done.now c.loop-rank.rank c.loop-rank.items.items c.if-is_call.items.items _ refl refl (sym w.if-is_call.ensures) (ap (λ v. v.items) w.items-is ∙ w.in_ok-push.ensures.items) c.loop-rank.invariant
   | else-is_call w ↦
-    subst (λ (l : List Place). Lists by_spot (NextBelow c.args.rows.now c.args.done.now (c.loop-rank.rank + 1)) l) (sym (ap (λ v. v.items) w.items-is))
-        (next_skip c.args.rows.now c.args.done.now c.loop-rank.rank c.loop-rank.items.items (sym w.if-is_call.ensures) c.loop-rank.invariant)
+      subst (λ (l : List Place). Lists by_spot (NextBelow c.args.rows.now c.args.done.now (c.loop-rank.rank + 1)) l) (sym (ap (λ v. v.items) w.items-is))
+      (next_skip c.args.rows.now c.args.done.now c.loop-rank.rank c.loop-rank.items.items (sym w.if-is_call.ensures) c.loop-rank.invariant)
 ]
 
 pub returns : goal.returns

@@ -9,13 +9,13 @@ pub look_at-requires-clause-ready : goal.look_at-requires-clause-ready
 look_at-requires-clause-ready c =
     let l = c.loop-place.list in
     popped_ready c.args.rows.now (record { done = l.done.items; first = l.first.items; watches = l.watches.items; fresh = c.pop.new.self.items }) c.in-Some.place
-        (subst (λ (f : List Place). IsReady c.args.rows.now (record { done = l.done.items; first = l.first.items; watches = l.watches.items; fresh = f })) c.in-Some.ensures.items c.loop-place.invariant.ready)
+    (subst (λ (f : List Place). IsReady c.args.rows.now (record { done = l.done.items; first = l.first.items; watches = l.watches.items; fresh = f })) c.in-Some.ensures.items c.loop-place.invariant.ready)
 
 pub look_at-requires-clause-call : goal.look_at-requires-clause-call
 look_at-requires-clause-call c =
     let l = c.loop-place.list in
     popped_call c.args.rows.now (record { done = l.done.items; first = l.first.items; watches = l.watches.items; fresh = c.pop.new.self.items }) c.in-Some.place
-        (subst (λ (f : List Place). IsReady c.args.rows.now (record { done = l.done.items; first = l.first.items; watches = l.watches.items; fresh = f })) c.in-Some.ensures.items c.loop-place.invariant.ready)
+    (subst (λ (f : List Place). IsReady c.args.rows.now (record { done = l.done.items; first = l.first.items; watches = l.watches.items; fresh = f })) c.in-Some.ensures.items c.loop-place.invariant.ready)
 
 pub loop-place-smaller : goal.loop-place-smaller
 loop-place-smaller c =

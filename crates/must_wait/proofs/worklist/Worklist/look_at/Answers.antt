@@ -56,7 +56,7 @@ returns-clause-watched c =
     let items = c.deref-watch-items.result.now in
     let is = sym (c.deref-watch-items.ensures.value ∙ c.woken.view_is ∙ c.take_watches-woken.ensures.watches) in
     looked_at c.args.rows.now (state_of c.args.self.now) t c.args.place c.requires.call c.requires.watched c.loop-watch.invariant.steps.keeps c.loop-watch.invariant.own
-        (λ rank call way h. each_watch items (λ r k w. IsSettled c.args.rows.now t r k w) (λ k d less. c.loop-watch.invariant.woken k d (omega arith)) rank call way (subst (λ l. HasWatch l rank call way) is h))
+    (λ rank call way h. each_watch items (λ r k w. IsSettled c.args.rows.now t r k w) (λ k d less. c.loop-watch.invariant.woken k d (omega arith)) rank call way (subst (λ l. HasWatch l rank call way) is h))
 
 pub returns-clause-fresh : goal.returns-clause-fresh
 returns-clause-fresh c = omega (arith, c.loop-watch.invariant.steps.fresh)
