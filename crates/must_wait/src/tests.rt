@@ -9,19 +9,16 @@ use std::alloc::Global;
 use std::process::Abort;
 use std::test::Fail;
 
-fn needs(alloc: Global, ways: &[&[(u32, u32)]]) -> Result<Needs, NoMemory> {
+/// One alternative with these places.
+fn way(alloc: Global, places: &[(u32, u32)]) -> Result<Places, NoMemory> {
     let mut items = Vec::new(alloc);
-    for way in ways {
-        let mut places = Vec::new(alloc);
-        for (rank, call) in way.iter() {
-            places.push(Place {
-                rank: *rank,
-                call: *call,
-            })?;
-        }
-        items.push(Places::from_vec(places))?;
+    for (rank, call) in places {
+        items.push(Place {
+            rank: *rank,
+            call: *call,
+        })?;
     }
-    Ok(Needs::from_vec(items))
+    Ok(Places::from_vec(items))
 }
 
 fn push(rt: &impl Abort, rows: &mut Rows, rank: u32, needs: Needs) -> Result<(), NoMemory> {
@@ -30,18 +27,66 @@ fn push(rt: &impl Abort, rows: &mut Rows, rank: u32, needs: Needs) -> Result<(),
     rows.push(rank, needs)
 }
 
-/// The rows of a run: for each rank its calls, each with its alternatives.
-fn rows(
-    rt: &impl Abort,
+/// A run under way.
+#[derive(Drop)]
+struct Run {
     alloc: Global,
-    count: u32,
-    calls: &[(u32, &[&[(u32, u32)]])],
-) -> Result<Rows, NoMemory> {
-    let mut rows = Rows::new(alloc, count)?;
-    for (rank, ways) in calls {
-        push(rt, &mut rows, *rank, needs(alloc, ways)?)?;
+    rows: Rows,
+}
+
+impl Run {
+    fn new(alloc: Global, ranks: u32) -> Result<Run, NoMemory> {
+        Ok(Run {
+            alloc,
+            rows: Rows::new(alloc, ranks)?,
+        })
     }
-    Ok(rows)
+
+    /// A call without an alternative.
+    fn none(&mut self, rt: &impl Abort, rank: u32) -> Result<(), NoMemory> {
+        push(
+            rt,
+            &mut self.rows,
+            rank,
+            Needs::from_vec(Vec::new(self.alloc)),
+        )
+    }
+
+    /// A call with one alternative.
+    fn one(&mut self, rt: &impl Abort, rank: u32, places: &[(u32, u32)]) -> Result<(), NoMemory> {
+        let mut ways = Vec::new(self.alloc);
+        ways.push(way(self.alloc, places)?)?;
+        push(rt, &mut self.rows, rank, Needs::from_vec(ways))
+    }
+
+    /// A call that never waits.
+    fn free(&mut self, rt: &impl Abort, rank: u32) -> Result<(), NoMemory> {
+        self.one(rt, rank, &[])
+    }
+
+    /// A call with two alternatives.
+    fn two(
+        &mut self,
+        rt: &impl Abort,
+        rank: u32,
+        places: &[(u32, u32)],
+        others: &[(u32, u32)],
+    ) -> Result<(), NoMemory> {
+        let mut ways = Vec::new(self.alloc);
+        ways.push(way(self.alloc, places)?)?;
+        ways.push(way(self.alloc, others)?)?;
+        push(rt, &mut self.rows, rank, Needs::from_vec(ways))
+    }
+
+    /// Checks which calls are blocked, and which of their ranks are the core.
+    fn expect(
+        &self,
+        rt: &impl Abort,
+        blocked: &[(u32, u32)],
+        ranks: &[u32],
+    ) -> Result<(), NoMemory> {
+        expect(rt, self.alloc, &self.rows, blocked, ranks)
+    }
 }
 
 /// Checks which calls are blocked, and which of their ranks are the core.
@@ -64,275 +109,238 @@ fn expect(
     Ok(())
 }
 
-/// A call that never waits.
-const FREE: &[&[(u32, u32)]] = &[&[]];
-
 #[test]
 fn lists(rt: HostRuntime) -> Result<(), Fail> {
-    let needs = needs(rt.alloc(), &[&[(3, 4), (5, 6)], &[]])?;
+    let alloc = rt.alloc();
+    let mut ways = Vec::new(alloc);
+    ways.push(way(alloc, &[(3, 4), (5, 6)])?)?;
+    ways.push(way(alloc, &[])?)?;
+    let needs = Needs::from_vec(ways);
     assert_eq!(rt; needs.items().len(), 2);
-    for (way, want) in needs.items().iter().zip([2usize, 0]) {
-        assert_eq!(rt; way.items().len(), want);
-    }
+    assert_eq!(rt; needs.items()[0].items().len(), 2);
+    assert_eq!(rt; needs.items()[1].items().len(), 0);
     let mut ways = needs.into_vec();
     assert_eq!(rt; ways.len(), 2);
-    if let Some(way) = ways.pop() {
-        assert_eq!(rt; way.into_vec().len(), 0);
-    }
-    if let Some(way) = ways.pop() {
-        let want = [Place { rank: 3, call: 4 }, Place { rank: 5, call: 6 }];
-        assert_eq!(rt; way.into_vec().as_slice(), want.as_slice());
-    }
+    let last = ways.pop();
+    assert!(rt; last.is_some_and(|way| way.into_vec().is_empty()));
+    let first = ways.pop();
+    assert!(rt; first.is_some_and(|way| way.into_vec().len() == 2));
     Ok(())
 }
 
 #[test]
 fn needs_of_rows(rt: HostRuntime) -> Result<(), Fail> {
-    let rows = rows(&rt, rt.alloc(), 2, &[(1, &[&[(0, 0)]]), (1, &[])])?;
+    let mut run = Run::new(rt.alloc(), 2)?;
+    run.one(&rt, 1, &[(0, 0)])?;
+    run.none(&rt, 1)?;
+    let rows = &run.rows;
     assert_eq!(rt; rows.ranks(), 2);
     assert!(rt; rows.needs(0, 0).is_none());
     assert!(rt; rows.needs(1, 2).is_none());
     assert!(rt; rows.needs(2, 0).is_none());
-    match rows.needs(1, 0) {
-        Some(needs) => assert_eq!(rt; needs.items().len(), 1),
-        None => assert!(rt; false),
-    }
-    match rows.needs(1, 1) {
-        Some(needs) => assert_eq!(rt; needs.items().len(), 0),
-        None => assert!(rt; false),
-    }
+    assert!(rt;
+        rows.needs(1, 0)
+            .is_some_and(|needs| needs.items().len() == 1)
+    );
+    assert!(rt;
+        rows.needs(1, 1)
+            .is_some_and(|needs| needs.items().is_empty())
+    );
     Ok(())
 }
 
 /// Two ranks that first send to each other, a third that waits for the first, and a fourth whose message never comes.
 #[test]
 fn sends_that_wait(rt: HostRuntime) -> Result<(), Fail> {
-    let calls: &[(u32, &[&[(u32, u32)]])] = &[
-        (0, FREE),
-        (0, &[&[(1, 2)]]),
-        (0, &[&[(1, 1)]]),
-        (0, &[&[(2, 1)]]),
-        (0, FREE),
-        (1, FREE),
-        (1, &[&[(0, 2)]]),
-        (1, &[&[(0, 1)]]),
-        (1, FREE),
-        (2, FREE),
-        (2, &[&[(0, 3)]]),
-        (2, FREE),
-        (3, FREE),
-        (3, &[&[(0, 5)]]),
-    ];
-    let rows = rows(&rt, rt.alloc(), 4, calls)?;
-    Ok(expect(
-        &rt,
-        rt.alloc(),
-        &rows,
-        &[(0, 1), (1, 1), (2, 1), (3, 1)],
-        &[0, 1, 2, 3],
-    )?)
+    let mut run = Run::new(rt.alloc(), 4)?;
+    for rank in 0..4u32 {
+        run.free(&rt, rank)?;
+    }
+    run.one(&rt, 0, &[(1, 2)])?;
+    run.one(&rt, 0, &[(1, 1)])?;
+    run.one(&rt, 0, &[(2, 1)])?;
+    run.one(&rt, 1, &[(0, 2)])?;
+    run.one(&rt, 1, &[(0, 1)])?;
+    run.one(&rt, 2, &[(0, 3)])?;
+    run.one(&rt, 3, &[(0, 5)])?;
+    for rank in 0..3u32 {
+        run.free(&rt, rank)?;
+    }
+    run.expect(&rt, &[(0, 1), (1, 1), (2, 1), (3, 1)], &[0, 1, 2, 3])?;
+    Ok(())
 }
 
 /// The same calls with sends that need nothing.
 #[test]
 fn buffered_sends(rt: HostRuntime) -> Result<(), Fail> {
-    let calls: &[(u32, &[&[(u32, u32)]])] = &[
-        (0, FREE),
-        (0, FREE),
-        (0, &[&[(1, 1)]]),
-        (0, FREE),
-        (0, FREE),
-        (1, FREE),
-        (1, FREE),
-        (1, &[&[(0, 1)]]),
-        (1, FREE),
-        (2, FREE),
-        (2, &[&[(0, 3)]]),
-        (2, FREE),
-        (3, FREE),
-        (3, &[&[(0, 5)]]),
-    ];
-    let rows = rows(&rt, rt.alloc(), 4, calls)?;
-    Ok(expect(&rt, rt.alloc(), &rows, &[(3, 1)], &[])?)
+    let mut run = Run::new(rt.alloc(), 4)?;
+    for rank in 0..4u32 {
+        run.free(&rt, rank)?;
+    }
+    run.free(&rt, 0)?;
+    run.one(&rt, 0, &[(1, 1)])?;
+    run.free(&rt, 0)?;
+    run.free(&rt, 1)?;
+    run.one(&rt, 1, &[(0, 1)])?;
+    run.one(&rt, 2, &[(0, 3)])?;
+    run.one(&rt, 3, &[(0, 5)])?;
+    for rank in 0..3u32 {
+        run.free(&rt, rank)?;
+    }
+    run.expect(&rt, &[(3, 1)], &[])?;
+    Ok(())
 }
 
 /// A barrier that the other rank never enters.
 #[test]
 fn lone_barrier(rt: HostRuntime) -> Result<(), Fail> {
-    let calls: &[(u32, &[&[(u32, u32)]])] = &[
-        (0, FREE),
-        (0, &[&[(0, 1), (1, 2)]]),
-        (0, FREE),
-        (1, FREE),
-        (1, FREE),
-    ];
-    let rows = rows(&rt, rt.alloc(), 2, calls)?;
-    Ok(expect(&rt, rt.alloc(), &rows, &[(0, 1)], &[])?)
+    let mut run = Run::new(rt.alloc(), 2)?;
+    run.free(&rt, 0)?;
+    run.one(&rt, 0, &[(0, 1), (1, 2)])?;
+    run.free(&rt, 0)?;
+    run.free(&rt, 1)?;
+    run.free(&rt, 1)?;
+    run.expect(&rt, &[(0, 1)], &[])?;
+    Ok(())
 }
 
 /// A probe that has no alternative.
 #[test]
 fn open_probe(rt: HostRuntime) -> Result<(), Fail> {
-    let rows = rows(&rt, rt.alloc(), 1, &[(0, FREE), (0, &[])])?;
-    Ok(expect(&rt, rt.alloc(), &rows, &[(0, 1)], &[])?)
+    let mut run = Run::new(rt.alloc(), 1)?;
+    run.free(&rt, 0)?;
+    run.none(&rt, 0)?;
+    run.expect(&rt, &[(0, 1)], &[])?;
+    Ok(())
 }
 
 /// Two receives that wait for each other's rank.
 #[test]
 fn receives_that_wait(rt: HostRuntime) -> Result<(), Fail> {
-    let calls: &[(u32, &[&[(u32, u32)]])] = &[
-        (0, FREE),
-        (0, &[&[(1, 2)]]),
-        (1, FREE),
-        (1, &[&[(0, 2)]]),
-    ];
-    let rows = rows(&rt, rt.alloc(), 2, calls)?;
-    Ok(expect(&rt, rt.alloc(), &rows, &[(0, 1), (1, 1)], &[0, 1])?)
+    let mut run = Run::new(rt.alloc(), 2)?;
+    run.free(&rt, 0)?;
+    run.one(&rt, 0, &[(1, 2)])?;
+    run.free(&rt, 1)?;
+    run.one(&rt, 1, &[(0, 2)])?;
+    run.expect(&rt, &[(0, 1), (1, 1)], &[0, 1])?;
+    Ok(())
 }
 
 #[test]
-fn edges(rt: HostRuntime) -> Result<(), Fail> {
-    let alloc = rt.alloc();
-    // No ranks, and ranks without calls.
-    expect(&rt, alloc, &Rows::new(alloc, 0)?, &[], &[])?;
-    expect(&rt, alloc, &Rows::new(alloc, 3)?, &[], &[])?;
-    // A call that needs itself is reached, and passes.
-    expect(
-        &rt,
-        alloc,
-        &rows(&rt, alloc, 1, &[(0, &[&[(0, 0)]])])?,
-        &[],
-        &[],
-    )?;
-    // A later call of the same rank, a place past the last call, and a rank that isn't there.
-    expect(
-        &rt,
-        alloc,
-        &rows(&rt, alloc, 1, &[(0, &[&[(0, 1)]]), (0, FREE)])?,
-        &[(0, 0)],
-        &[0],
-    )?;
-    expect(
-        &rt,
-        alloc,
-        &rows(&rt, alloc, 1, &[(0, &[&[(0, 1)]])])?,
-        &[(0, 0)],
-        &[0],
-    )?;
-    expect(
-        &rt,
-        alloc,
-        &rows(&rt, alloc, 1, &[(0, &[&[(1, 0)]])])?,
-        &[(0, 0)],
-        &[],
-    )?;
-    // An empty alternative beside one that is never open; no alternative at all.
-    expect(
-        &rt,
-        alloc,
-        &rows(&rt, alloc, 1, &[(0, &[&[(0, 7)], &[]])])?,
-        &[],
-        &[],
-    )?;
-    expect(
-        &rt,
-        alloc,
-        &rows(&rt, alloc, 1, &[(0, &[])])?,
-        &[(0, 0)],
-        &[],
-    )?;
-    // All places of an alternative are needed, and some alternative is enough.
-    expect(
-        &rt,
-        alloc,
-        &rows(
-            &rt,
-            alloc,
-            2,
-            &[(0, &[&[(1, 0), (1, 1)]]), (1, &[&[(0, 1)]]), (1, FREE)],
-        )?,
-        &[(0, 0), (1, 0)],
-        &[0, 1],
-    )?;
-    expect(
-        &rt,
-        alloc,
-        &rows(
-            &rt,
-            alloc,
-            2,
-            &[(0, &[&[(1, 1)], &[(1, 0)]]), (1, &[&[(0, 1)]]), (1, FREE)],
-        )?,
-        &[(1, 0)],
-        &[],
-    )?;
+fn runs_without_calls(rt: HostRuntime) -> Result<(), Fail> {
+    Run::new(rt.alloc(), 0)?.expect(&rt, &[], &[])?;
+    Run::new(rt.alloc(), 3)?.expect(&rt, &[], &[])?;
+    Ok(())
+}
+
+/// One call that needs itself, a call of its rank past the last, a rank that isn't there, or has an empty alternative.
+#[test]
+fn lone_calls(rt: HostRuntime) -> Result<(), Fail> {
+    let mut run = Run::new(rt.alloc(), 1)?;
+    run.one(&rt, 0, &[(0, 0)])?;
+    run.expect(&rt, &[], &[])?;
+    let mut run = Run::new(rt.alloc(), 1)?;
+    run.one(&rt, 0, &[(0, 1)])?;
+    run.expect(&rt, &[(0, 0)], &[0])?;
+    let mut run = Run::new(rt.alloc(), 1)?;
+    run.one(&rt, 0, &[(1, 0)])?;
+    run.expect(&rt, &[(0, 0)], &[])?;
+    let mut run = Run::new(rt.alloc(), 1)?;
+    run.two(&rt, 0, &[(0, 7)], &[])?;
+    run.expect(&rt, &[], &[])?;
+    Ok(())
+}
+
+/// A call that needs a later call of its own rank.
+#[test]
+fn later_call(rt: HostRuntime) -> Result<(), Fail> {
+    let mut run = Run::new(rt.alloc(), 1)?;
+    run.one(&rt, 0, &[(0, 1)])?;
+    run.free(&rt, 0)?;
+    run.expect(&rt, &[(0, 0)], &[0])?;
+    Ok(())
+}
+
+/// All places of an alternative are needed, and some alternative is enough.
+#[test]
+fn alternatives(rt: HostRuntime) -> Result<(), Fail> {
+    let mut run = Run::new(rt.alloc(), 2)?;
+    run.one(&rt, 0, &[(1, 0), (1, 1)])?;
+    run.one(&rt, 1, &[(0, 1)])?;
+    run.free(&rt, 1)?;
+    run.expect(&rt, &[(0, 0), (1, 0)], &[0, 1])?;
+    let mut run = Run::new(rt.alloc(), 2)?;
+    run.two(&rt, 0, &[(1, 1)], &[(1, 0)])?;
+    run.one(&rt, 1, &[(0, 1)])?;
+    run.free(&rt, 1)?;
+    run.expect(&rt, &[(1, 0)], &[])?;
     Ok(())
 }
 
 /// Two ranks wait for each other, a third for them, and a fourth for the first or for nobody that is blocked.
 #[test]
 fn cycle_with_a_tail(rt: HostRuntime) -> Result<(), Fail> {
-    let calls: &[(u32, &[&[(u32, u32)]])] = &[
-        (0, &[&[(1, 1)]]),
-        (1, &[&[(0, 1)]]),
-        (2, &[&[(0, 1), (1, 1)]]),
-        (3, &[&[(0, 1)], &[(4, 1)]]),
-        (4, FREE),
-    ];
-    let rows = rows(&rt, rt.alloc(), 5, calls)?;
-    Ok(expect(
-        &rt,
-        rt.alloc(),
-        &rows,
-        &[(0, 0), (1, 0), (2, 0), (3, 0)],
-        &[0, 1, 2],
-    )?)
+    let mut run = Run::new(rt.alloc(), 5)?;
+    run.one(&rt, 0, &[(1, 1)])?;
+    run.one(&rt, 1, &[(0, 1)])?;
+    run.one(&rt, 2, &[(0, 1), (1, 1)])?;
+    run.two(&rt, 3, &[(0, 1)], &[(4, 1)])?;
+    run.free(&rt, 4)?;
+    run.expect(&rt, &[(0, 0), (1, 0), (2, 0), (3, 0)], &[0, 1, 2])?;
+    Ok(())
 }
 
-/// Each rank waits for the second call of the next one, and the last for nobody.
+/// Each rank waits for the second call of the next one, which is there.
 #[test]
 fn long_chain(rt: HostRuntime) -> Result<(), Fail> {
-    let alloc = rt.alloc();
-    let mut free = Rows::new(alloc, 1024)?;
-    let mut stuck = Rows::new(alloc, 1024)?;
+    let mut run = Run::new(rt.alloc(), 1024)?;
     for rank in 0..1023u32 {
-        let next = needs(alloc, &[&[(rank + 1, 1)]])?;
-        push(&rt, &mut free, rank, next)?;
-        push(&rt, &mut free, rank, needs(alloc, FREE)?)?;
-        push(&rt, &mut stuck, rank, needs(alloc, &[&[(rank + 1, 1)]])?)?;
+        run.one(&rt, rank, &[(rank + 1, 1)])?;
+        run.free(&rt, rank)?;
     }
-    push(&rt, &mut free, 1023, needs(alloc, FREE)?)?;
-    push(&rt, &mut free, 1023, needs(alloc, FREE)?)?;
-    push(&rt, &mut stuck, 1023, needs(alloc, &[])?)?;
-    expect(&rt, alloc, &free, &[], &[])?;
-    let found = replay(alloc, &stuck)?;
-    let kept = core(alloc, &stuck, &found)?;
+    run.free(&rt, 1023)?;
+    run.free(&rt, 1023)?;
+    run.expect(&rt, &[], &[])?;
+    Ok(())
+}
+
+/// Each rank waits for a call of the next one that never comes, and the last has no alternative.
+#[test]
+fn stuck_chain(rt: HostRuntime) -> Result<(), Fail> {
+    let mut run = Run::new(rt.alloc(), 1024)?;
+    for rank in 0..1023u32 {
+        run.one(&rt, rank, &[(rank + 1, 1)])?;
+    }
+    run.none(&rt, 1023)?;
+    let found = replay(run.alloc, &run.rows)?;
+    let kept = core(run.alloc, &run.rows, &found)?;
     assert_eq!(rt; found.items().len(), 1024);
     assert_eq!(rt; kept.items().len(), 0);
     Ok(())
 }
 
-/// A million calls of one rank, each of which needs the one before; then two ranks that take turns.
+/// A million calls of one rank, each of which needs the one before.
 #[test]
 fn many_calls(rt: HostRuntime) -> Result<(), Fail> {
-    let alloc = rt.alloc();
-    let mut rows = Rows::new(alloc, 1)?;
+    let mut run = Run::new(rt.alloc(), 1)?;
     for call in 0..1_000_000u32 {
-        push(
-            &rt,
-            &mut rows,
-            0,
-            needs(alloc, &[&[(0, call.saturating_sub(1))]])?,
-        )?;
+        run.one(&rt, 0, &[(0, call.saturating_sub(1))])?;
     }
-    push(&rt, &mut rows, 0, needs(alloc, &[])?)?;
-    expect(&rt, alloc, &rows, &[(0, 1_000_000)], &[])?;
-    let mut turns = Rows::new(alloc, 2)?;
+    run.none(&rt, 0)?;
+    run.expect(&rt, &[(0, 1_000_000)], &[])?;
+    Ok(())
+}
+
+/// Two ranks that take turns.
+#[test]
+fn many_turns(rt: HostRuntime) -> Result<(), Fail> {
+    let mut run = Run::new(rt.alloc(), 2)?;
     for call in 0..200_000u32 {
-        push(&rt, &mut turns, 0, needs(alloc, &[&[(1, call)]])?)?;
-        push(&rt, &mut turns, 1, needs(alloc, &[&[(0, call)]])?)?;
+        run.one(&rt, 0, &[(1, call)])?;
+        run.one(&rt, 1, &[(0, call)])?;
     }
-    Ok(expect(&rt, alloc, &turns, &[], &[])?)
+    run.expect(&rt, &[], &[])?;
+    Ok(())
 }
 
 /// Numbers that look like chance.
