@@ -53,7 +53,7 @@ way_more rows m n more (Some ways) e =
     any_more (list_all (λ (p : Place). reached rows m p.rank p.call)) (list_all (λ (p : Place). reached rows n p.rank p.call)) ways
     (λ way. all_more (λ (p : Place). reached rows m p.rank p.call) (λ (p : Place). reached rows n p.rank p.call) way (λ p. reached_more rows m n more p.rank p.call)) e
 
-next_more : (rows : Rows) (m n : Marks) → Within m n → Within (next_round rows m) (next_round rows n)
+pub next_more : (rows : Rows) (m n : Marks) → Within m n → Within (next_round rows m) (next_round rows n)
 next_more rows m n more rank call e =
     let r = reached rows m rank call in
     let w = some_way rows m (needs_of rows rank call) in

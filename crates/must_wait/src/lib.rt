@@ -1,10 +1,18 @@
 //! Wait states: the replay of a run's calls by what they need, and the deadlock core (docs/WAITING.md).
 //!
-//! `replay` and `core` take time and memory linear in ranks, calls, alternatives and places together.
+//! [`laws`] says that the calls that a replay passes are the least set that is closed under progress.
+//!
+//! Costs:
+//!
+//! - `replay` takes time and memory linear in ranks, calls, alternatives and places together.
+//! - `core` takes memory linear in the ranks. Each rank that it drops costs at most one pass over the needs of the blocked calls
+//!   that are kept, which goes in each alternative up to the first place that holds it.
+//! - `Rows::push` is constant but for the growth of the list of calls; the other calls are constant.
 #![tactic(auto)]
 
 mod blocked;
 mod deadlock;
+pub mod laws;
 mod lists;
 mod progress;
 mod rows;
