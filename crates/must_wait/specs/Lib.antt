@@ -1,0 +1,6 @@
+pub mod Needs
+pub mod Replay
+pub mod Core
+pub mod Counted
+pub mod Keeping
+pub mod Watching
