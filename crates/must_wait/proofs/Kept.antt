@@ -1,6 +1,6 @@
 -- Ranks that are dropped one by one leave what the rounds leave.
-use Rattle.std.proofs.Common.{◌≡◌, ℕ, zero, suc, ◌+◌, ◌-◌, ◌<◌, ◌≤◌, ◌⊎◌, Bool, true, false, not, ◌&&◌, cond, List, [], ◌∷◌, ◌++◌, length, get_or, set, replicate, Option, Some, None, refl, sym, ap, subst, ◌∙◌, inl, inr, arith, nat_lt, nat_eq, sum_by, eq-eqb, Ordering, Less}
-use Rattle.std.specs.Prelude.{◌↔◌, find}
+use Rattle.std.proofs.Common.{◌≡◌, ℕ, zero, suc, ◌+◌, ◌-◌, ◌<◌, ◌≤◌, ◌⊎◌, Bool, true, false, not, cond, List, [], ◌∷◌, ◌++◌, length, get_or, set, replicate, Option, Some, None, refl, sym, ap, subst, ◌∙◌, inl, inr, arith, nat_eq, eq-eqb}
+use Rattle.std.specs.Prelude.{find}
 use Rattle.std.specs.List.{list_all, list_any}
 use Rattle.std.specs.Option.{is_some}
 use Rattle.std.specs.Ordering.{nat_cmp}
@@ -10,7 +10,7 @@ use Rattle.std.proofs.lemmas.List.Sums.{sum_by-set, sum_by-cons}
 use Rattle.must_call.specs.declared.place.Place.{Place}
 use Rattle.must_find.specs.Listing.{Has, Lists}
 use Rattle.must_wait.specs.Core.{blocked_at, holds, is_held, needs_at, kept_in, IsCore}
-use Rattle.must_wait.specs.Keeping.{kept_call, behind, holds_yet, kept_count, IsKept, IsKeptSome, AllHeld, held_or_dropped}
+use Rattle.must_wait.specs.Keeping.{kept_call, behind, holds_yet, kept_count, IsKept, AllHeld}
 use Rattle.must_wait.specs.Needs.{Needs, Rows, needs_of}
 use Rattle.must_wait.specs.Replay.{follows, reached, passed, IsBlocked, IsBlockedList}
 use Rattle.must_wait.proofs.Listed.{rises_last, has_more, has_last, has_or, less_is, same_place, listed_as}
@@ -30,7 +30,7 @@ kept_before rows blocked (suc more) round zero e rank k = absurd (omega arith)
 kept_before rows blocked (suc more) round (suc late) e rank k =
     kept_before rows blocked more round late (omega arith) rank (and_left (kept_in rows blocked late rank) (is_held (holds rows (kept_in rows blocked late)) (needs_at rows (blocked_at blocked rank))) k)
 
-not_true : (b : Bool) → b ≡ false → not b ≡ true
+pub not_true : (b : Bool) → b ≡ false → not b ≡ true
 not_true true e = absurd (true≢false e)
 not_true false e = refl
 
@@ -95,7 +95,7 @@ found rows blocked rank call list b =
     }
 
 -- one more rank is dropped
-in_kept : (kept : List (Option ℕ)) (at call : ℕ) → kept_call kept at ≡ Some call → at < length kept
+pub in_kept : (kept : List (Option ℕ)) (at call : ℕ) → kept_call kept at ≡ Some call → at < length kept
 in_kept [] at call e = cc
 in_kept (o ∷ kept) zero call e = omega arith
 in_kept (o ∷ kept) (suc at) call e = omega (arith, in_kept kept at call e)
@@ -243,22 +243,6 @@ none_at (suc n) (suc k) = none_at n k
 
 pub no_calls : (blocked : List Place) (n : ℕ) (calls : List (Option ℕ)) → calls ≡ replicate n None → (rank call : ℕ) → kept_call calls rank ≡ Some call → Has blocked (record { rank = rank; call = call })
 no_calls blocked n calls e rank call h = absurd (let none : kept_call calls rank ≡ None = ap (λ l. kept_call l rank) e ∙ none_at n rank in let clash : None ≡ Some call = sym none ∙ h in cc)
-
-pub all_held : (rows : Rows) (kept : List (Option ℕ)) → length kept ≡ length rows → ((rank : ℕ) → rank < length rows → held_or_dropped rows kept rank (kept_call kept rank) ≡ true) → AllHeld rows kept
-all_held rows kept len all rank call e = subst (λ o. held_or_dropped rows kept rank o ≡ true) e (all rank (omega (arith, in_kept kept rank call e)))
-
-free_is : (rows : Rows) (kept : List (Option ℕ)) (rank : ℕ) (o : Option ℕ) → held_or_dropped rows kept rank o ≡ false → (call : ℕ) × (o ≡ Some call) × (is_held (holds_yet kept) (needs_of rows rank call) ≡ false)
-free_is rows kept rank None e = absurd (true≢false e)
-free_is rows kept rank (Some call) e = (call, refl, e)
-
-pub free_call : (rows : Rows) (kept : List (Option ℕ)) (rank : ℕ) → held_or_dropped rows kept rank (kept_call kept rank) ≡ false → (call : ℕ) × (kept_call kept rank ≡ Some call) × (is_held (holds_yet kept) (needs_of rows rank call) ≡ false)
-free_call rows kept rank e = free_is rows kept rank (kept_call kept rank) e
-
-pub drop_free : (rows : Rows) (blocked : List Place) (kept : List (Option ℕ)) (rank : ℕ) → IsBlockedList rows blocked → IsKeptSome rows blocked kept → held_or_dropped rows kept rank (kept_call kept rank) ≡ false → IsKeptSome rows blocked (set kept rank None)
-drop_free rows blocked kept rank list k e = let f = free_call rows kept rank e in (suc k.0, drop_kept rows blocked k.0 kept rank f.0 list k.1 f.1 f.2)
-
-pub free_less : (rows : Rows) (kept : List (Option ℕ)) (rank : ℕ) → held_or_dropped rows kept rank (kept_call kept rank) ≡ false → kept_count (set kept rank None) < kept_count kept
-free_less rows kept rank e = let f = free_call rows kept rank e in omega (arith, one_less kept rank f.0 f.1)
 
 pub blocked_rank : (rows : Rows) (blocked : List Place) → IsBlockedList rows blocked → (p : Place) → Has blocked p → p.rank < length rows
 blocked_rank rows blocked list p h = rank_of_call rows p.rank p.call (and_left (is_some (needs_of rows p.rank p.call)) (follows (passed rows) p.rank p.call) ((list.exact p).0 h).is_reached)

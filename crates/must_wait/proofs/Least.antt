@@ -1,11 +1,11 @@
 -- The passed calls are the least closed set of calls.
-use Rattle.std.proofs.Common.{◌≡◌, ℕ, zero, suc, ◌+◌, ◌-◌, ◌<◌, ◌≤◌, ◌⊎◌, Bool, true, false, ◌&&◌, List, length, set, sum, replicate, refl, sym, ap, subst, ◌∙◌, inl, inr, arith, slice_index}
+use Rattle.std.proofs.Common.{◌≡◌, ℕ, zero, suc, ◌+◌, ◌<◌, ◌≤◌, ◌⊎◌, true, false, List, length, set, sum, replicate, refl, sym, ap, subst, ◌∙◌, inl, inr, arith, slice_index}
 use Rattle.std.specs.Option.{is_some}
-use Rattle.std.proofs.lemmas.Bool.{cases_order, cases_lt, cases_Bool, lt-ltb, true≢false, false_from_ne_true}
+use Rattle.std.proofs.lemmas.Bool.{cases_order, cases_Bool, lt-ltb, true≢false, false_from_ne_true}
 use Rattle.must_wait.specs.Counted.{counted, Within, IsSound, IsClosed}
 use Rattle.must_wait.specs.Needs.{Rows, needs_of, call_count}
 use Rattle.must_wait.specs.Replay.{Marks, follows, reached, some_way, next_round, passed_in, passed}
-use Rattle.must_wait.proofs.Rounds.{and_left, and_right, way_more, next_more, follows_to, pass_sound, sum_more, sum_fits, passed_to, passed_from}
+use Rattle.must_wait.proofs.Rounds.{and_left, and_right, next_more, follows_to, pass_sound, sum_more, sum_fits, passed_to, passed_from}
 use Rattle.must_wait.proofs.Watched.{start_sound, call_with_way, rank_of_call}
 
 -- either some rank's next call can pass, or none of the first ranks' can

@@ -1,3 +1,4 @@
+pub mod Dropped
 pub mod Kept
 pub mod Least
 pub mod Listed

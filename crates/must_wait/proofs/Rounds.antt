@@ -1,12 +1,11 @@
 -- The rounds of the replay only grow, and what is passed step by step is what the rounds pass.
-use Rattle.std.proofs.Common.{◌≡◌, ℕ, zero, suc, ◌+◌, ◌-◌, ◌<◌, ◌≤◌, ◌⊎◌, Bool, true, false, ◌&&◌, ◌||◌, List, [], ◌∷◌, length, get_or, set, sum, Option, Some, None, is_some, refl, sym, ap, subst, ◌∙◌, inl, inr, arith, slice_index, slice_get, nat_lt, sum_by}
+use Rattle.std.proofs.Common.{◌≡◌, ℕ, zero, suc, ◌+◌, ◌-◌, ◌<◌, ◌≤◌, ◌⊎◌, Bool, true, false, ◌&&◌, ◌||◌, List, [], ◌∷◌, length, get_or, set, sum, Option, Some, None, is_some, refl, sym, ap, subst, ◌∙◌, inl, inr, arith, slice_index, slice_get, nat_lt}
 use Rattle.std.specs.List.{list_all, list_any}
-use Rattle.std.proofs.lemmas.Bool.{cases_order, cases_Bool, ltb-true, lt-ltb, ltb-false, true≢false, false_from_ne_true}
+use Rattle.std.proofs.lemmas.Bool.{cases_order, ltb-true, lt-ltb, true≢false, false_from_ne_true}
 use Rattle.std.proofs.lemmas.List.{get_or-set_same, get_or-set_other, length-set}
 use Rattle.std.proofs.lemmas.List.Sums.{sum_by-set, sum_by-cons}
-use Rattle.std.proofs.lemmas.Option.{slice_get_past, slice_get_within, slice_get-get_or}
 use Rattle.must_call.specs.declared.place.Place.{Place}
-use Rattle.must_wait.specs.Needs.{Needs, Rows, calls_in, calls_of, needs_of, call_count}
+use Rattle.must_wait.specs.Needs.{Needs, Rows, calls_of, needs_of, call_count}
 use Rattle.must_wait.specs.Replay.{Marks, follows, reached, some_way, next_round, passed_in, passed, IsBlocked}
 use Rattle.must_wait.specs.Counted.{counted, Within, IsSound, IsClosed, IsNext}
 

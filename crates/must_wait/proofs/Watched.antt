@@ -1,9 +1,9 @@
 -- Steps of the worklist keep each alternative watched.
-use Rattle.std.proofs.Common.{◌≡◌, ℕ, zero, suc, ◌+◌, ◌-◌, ◌<◌, ◌≤◌, ◌⊎◌, ◌^◌, Bor, Result, Ok, Err, Bool, true, false, ◌&&◌, ◌||◌, List, [], ◌∷◌, ◌++◌, length, get_or, set, sum, Option, Some, None, is_some, refl, sym, ap, subst, ◌∙◌, inl, inr, arith, slice_index, slice_get, nat_lt, slice_index_or, replicate}
+use Rattle.std.proofs.Common.{◌≡◌, ℕ, zero, suc, ◌+◌, ◌<◌, ◌≤◌, ◌⊎◌, Bor, Result, Ok, Err, Bool, true, false, ◌||◌, List, [], ◌∷◌, ◌++◌, length, get_or, set, Option, Some, None, is_some, refl, sym, ap, subst, ◌∙◌, inl, inr, arith, slice_index, slice_get, slice_index_or, replicate}
 use Rattle.std.specs.List.{list_all, list_any}
 use Rattle.std.specs.Option.{option_copied}
 use Rattle.std.specs.Result.{OnOk}
-use Rattle.std.proofs.lemmas.Bool.{cases_order, cases_eq, cases_Bool, ltb-true, lt-ltb, true≢false, false_from_ne_true}
+use Rattle.std.proofs.lemmas.Bool.{cases_order, cases_eq, cases_Bool, ltb-true, true≢false, false_from_ne_true}
 use Rattle.std.proofs.lemmas.List.{get_or-set_same, get_or-set_other, length-set, length-append, length-replicate, get_or_default}
 use Rattle.std.proofs.Math.ListN.{get_or-append}
 use Rattle.std.proofs.Math.Seq.{get_or-append_seam}
@@ -11,11 +11,11 @@ use Rattle.std.proofs.lemmas.Option.{slice_get_within, slice_get-get_or}
 use Rattle.must_call.specs.declared.place.Place.{Place}
 use Rattle.must_find.specs.Listing.{Has}
 use Rattle.must_wait.specs.declared.worklist.Watch.{Watch}
-use Rattle.must_wait.specs.Needs.{Needs, Rows, calls_in, calls_of, needs_of, call_count}
-use Rattle.must_wait.specs.Replay.{Marks, follows, reached, some_way, passed_in}
-use Rattle.must_wait.specs.Counted.{counted, Within, IsSound, IsClosed}
+use Rattle.must_wait.specs.Needs.{Needs, Rows, calls_in, calls_of, needs_of}
+use Rattle.must_wait.specs.Replay.{Marks, follows, reached, some_way}
+use Rattle.must_wait.specs.Counted.{counted, IsSound, IsClosed}
 use Rattle.must_wait.specs.Watching.{State, ways_in, way_at, HasPlace, HasWatch, slot, watches_at, Pends, WaitsAt, IsWatched, AllWatched, IsSettled, Keeps, IsReady, Steps, taken, with_fresh}
-use Rattle.must_wait.proofs.Rounds.{and_left, and_right, and_both, follows_to, follows_from, pass_sound, some_get, get_some, sum_more}
+use Rattle.must_wait.proofs.Rounds.{and_left, and_right, and_both, follows_to, follows_from, pass_sound, sum_more}
 
 pub place_more : (ps : List Place) (p : Place) (rank call : ℕ) → HasPlace ps rank call → HasPlace (ps ++ p ∷ []) rank call
 place_more [] p rank call h = absurd h

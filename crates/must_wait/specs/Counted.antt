@@ -1,5 +1,5 @@
 -- A replay under way: how many calls of each rank are passed so far.
-use Rattle.std.specs.Prelude.{◌≡◌, ℕ, ◌≤◌, ◌<◌, Bool, true, false, List, length, slice_index, nat_lt, sum, is_some}
+use Rattle.std.specs.Prelude.{◌≡◌, ℕ, ◌≤◌, true, false, List, length, slice_index, nat_lt, sum, is_some}
 use Rattle.must_call.specs.declared.place.Place.{Place}
 use Rattle.must_wait.specs.Needs.{Rows, needs_of, calls_of}
 use Rattle.must_wait.specs.Replay.{Marks, some_way, passed_in}

@@ -3,7 +3,7 @@ use Rattle.std.specs.Prelude.{◌≡◌, ℕ, ◌+◌, ◌≤◌, Bool, true, fa
 use Rattle.std.specs.List.{slice_index_or}
 use Rattle.must_call.specs.declared.place.Place.{Place}
 use Rattle.must_wait.specs.Core.{is_held, kept_in}
-use Rattle.must_wait.specs.Needs.{Needs, Rows, needs_of}
+use Rattle.must_wait.specs.Needs.{Rows, needs_of}
 use Rattle.must_wait.specs.Replay.{IsBlocked}
 
 -- the blocked call of a rank that is kept
@@ -31,11 +31,6 @@ pub record IsKept (rows : Rows) (blocked : List Place) (rounds : ℕ) (kept : Li
 -- each kept rank is held
 abbrev pub AllHeld : Rows → List (Option ℕ) → Type 0
 AllHeld rows kept = (rank call : ℕ) → kept_call kept rank ≡ Some call → is_held (holds_yet kept) (needs_of rows rank call) ≡ true
-
--- a rank is dropped, or its blocked call is held
-abbrev pub held_or_dropped : Rows → List (Option ℕ) → ℕ → Option ℕ → Bool
-held_or_dropped rows kept rank None = true
-held_or_dropped rows kept rank (Some call) = is_held (holds_yet kept) (needs_of rows rank call)
 
 -- after some rounds
 abbrev pub IsKeptSome : Rows → List Place → List (Option ℕ) → Type 0

@@ -2,5 +2,6 @@ pub mod Needs
 pub mod Replay
 pub mod Core
 pub mod Counted
+pub mod Dropping
 pub mod Keeping
 pub mod Watching

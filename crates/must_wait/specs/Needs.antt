@@ -1,5 +1,5 @@
 -- The needs of the calls of a run (docs/WAITING.md, "Needs").
-use Rattle.std.specs.Prelude.{ℕ, Bool, true, false, List, [], ◌∷◌, Option, Some, None, length, slice_get, sum_by, is_some}
+use Rattle.std.specs.Prelude.{ℕ, List, [], Option, Some, None, length, slice_get, sum_by}
 use Rattle.must_call.specs.declared.place.Place.{Place}
 
 -- the alternatives of a call, each a list of places

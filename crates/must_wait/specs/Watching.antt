@@ -1,5 +1,5 @@
 -- The replay as a worklist: each alternative of a rank's next call is watched at one of its places.
-use Rattle.std.specs.Prelude.{◌≡◌, ℕ, ◌+◌, ◌≤◌, ◌<◌, ◌⊎◌, ◌^◌, ◌++◌, ◌∷◌, [], Bool, true, false, List, Option, Some, None, length, slice_index, slice_get, slice_set, is_some, sum}
+use Rattle.std.specs.Prelude.{◌≡◌, ℕ, ◌+◌, ◌≤◌, ◌<◌, ◌⊎◌, ◌^◌, ◌++◌, ◌∷◌, [], true, false, List, Option, Some, None, length, slice_index, slice_get, slice_set, is_some, sum}
 use Rattle.std.specs.List.{slice_index_or}
 use Rattle.must_call.specs.declared.place.Place.{Place}
 use Rattle.must_find.specs.Listing.{Has}

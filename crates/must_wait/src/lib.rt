@@ -4,14 +4,14 @@
 //!
 //! Costs:
 //!
-//! - `replay` takes time and memory linear in ranks, calls, alternatives and places together.
-//! - `core` takes memory linear in the ranks. Each rank that it drops costs at most one pass over the needs of the blocked calls
-//!   that are kept, which goes in each alternative up to the first place that holds it.
+//! - `replay` and `core` take time and memory linear in ranks, calls, alternatives and places together: each call is looked at
+//!   once, and each alternative goes over each of its places at most twice.
 //! - `Rows::push` is constant but for the growth of the list of calls; the other calls are constant.
 #![tactic(auto)]
 
 mod blocked;
 mod deadlock;
+mod dropping;
 pub mod laws;
 mod lists;
 mod progress;

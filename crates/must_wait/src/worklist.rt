@@ -24,16 +24,16 @@ use std::marker::Model;
 /// An alternative of a call, and the index of the place of it at which it is watched.
 #[derive(Clone, Copy)]
 pub(crate) struct Watch {
-    rank: u32,
-    call: u32,
-    way: usize,
-    place: usize,
+    pub(crate) rank: u32,
+    pub(crate) call: u32,
+    pub(crate) way: usize,
+    pub(crate) place: usize,
 }
 
 /// The watches at one call.
 #[derive(Drop)]
 pub(crate) struct Watches {
-    items: Vec<Watch>,
+    pub(crate) items: Vec<Watch>,
 }
 
 impl Model for Watches {
@@ -96,7 +96,7 @@ fn unreached(rows: &[RankRow], done: &[u32], way: &Places, from: usize) -> Optio
 }
 
 /// The alternative of a watch.
-fn way_of<'a>(rows: &'a [RankRow], watch: &Watch) -> Option<&'a Places>
+pub(crate) fn way_of<'a>(rows: &'a [RankRow], watch: &Watch) -> Option<&'a Places>
     ensures { option_copied result ≡ way_at rows.now watch.now.rank watch.now.call watch.now.way }
 {
     match rows.get(watch.rank as usize) {
@@ -226,7 +226,7 @@ impl Worklist {
 }
 
 /// How many alternatives a call has.
-fn way_count(rows: &[RankRow], place: Place) -> usize
+pub(crate) fn way_count(rows: &[RankRow], place: Place) -> usize
     ensures { result ≡ length (ways_in (needs_of rows.now place.rank place.call)) }
 {
     match rows.get(place.rank as usize) {

@@ -1,4 +1,4 @@
-use Rattle.std.proofs.Common.{◌≡◌, ◌+◌, ◌<◌, ◌≤◌, ◌∙◌, ℕ, List, length, sym, ap, arith, refl, subst}
+use Rattle.std.proofs.Common.{◌+◌, ◌∙◌, List, sym, ap, arith, refl, subst}
 use Rattle.must_call.specs.declared.place.Place.{Place}
 use Rattle.must_find.specs.Listing.{Lists}
 use Rattle.must_find.specs.Order.{by_spot}

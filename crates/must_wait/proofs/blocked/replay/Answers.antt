@@ -1,4 +1,4 @@
-use Rattle.std.proofs.Common.{◌≡◌, ℕ, List, subst}
+use Rattle.std.proofs.Common.{ℕ, List, subst}
 use Rattle.must_find.specs.Listing.{Lists}
 use Rattle.must_find.specs.Order.{by_spot}
 use Rattle.must_wait.specs.Counted.{IsNext}

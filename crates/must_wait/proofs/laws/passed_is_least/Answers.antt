@@ -1,5 +1,4 @@
-use Rattle.must_wait.specs.Replay.{Marks}
-use Rattle.must_wait.specs.Needs.{Rows, call_count}
+use Rattle.must_wait.specs.Needs.{call_count}
 use Rattle.must_wait.proofs.Least.{least}
 use Rattle.must_wait.proofs.laws.passed_is_least.Goals as goal
 

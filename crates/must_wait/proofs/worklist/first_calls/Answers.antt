@@ -1,4 +1,4 @@
-use Rattle.std.proofs.Common.{◌≡◌, ◌<◌, ◌≤◌, ◌∙◌, ℕ, length, sym, ap, arith, refl}
+use Rattle.std.proofs.Common.{◌∙◌, sym, ap, arith, refl}
 use Rattle.must_wait.proofs.Watched.{first_push, first_calls_push, first_skip, rank_of_call}
 use Rattle.must_wait.proofs.worklist.first_calls.Goals as goal
 use Rattle.must_wait.proofs.worklist.first_calls.Goals.{then-is_call+in_ok-push, else-is_call}

@@ -1,6 +1,6 @@
-use Rattle.std.proofs.Common.{◌≡◌, ◌<◌, ◌≤◌, ◌+◌, ◌++◌, ◌∷◌, ◌-◌, ◌∙◌, take, [], ℕ, List, length, sym, arith, subst, sum, length-append, ap}
+use Rattle.std.proofs.Common.{◌≡◌, ◌++◌, ◌∷◌, ◌-◌, ◌∙◌, take, [], ℕ, List, length, arith, subst, length-append, ap}
 use Rattle.must_call.specs.declared.place.Place.{Place}
-use Rattle.must_wait.specs.Watching.{state_of, with_fresh, IsReady}
+use Rattle.must_wait.specs.Watching.{state_of, IsReady}
 use Rattle.must_wait.proofs.Rounds.{sum_fits}
 use Rattle.must_wait.proofs.Watched.{popped_ready, popped_call, all_closed}
 use Rattle.must_wait.proofs.worklist.passed_calls.Goals as goal

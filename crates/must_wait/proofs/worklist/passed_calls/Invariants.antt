@@ -1,4 +1,4 @@
-use Rattle.std.proofs.Common.{◌≡◌, ◌≤◌, ◌+◌, ◌-◌, ℕ, length, sum}
+use Rattle.std.proofs.Common.{◌+◌, ◌-◌, length, sum}
 use Rattle.must_wait.specs.Needs.{call_count}
 use Rattle.must_wait.specs.Watching.{state_of, IsReady, AllWatched}
 use Rattle.must_wait.proofs.worklist.passed_calls.Given as goal

@@ -1,4 +1,4 @@
-use Rattle.std.proofs.Common.{◌≡◌, [], replicate, vec_len}
+use Rattle.std.proofs.Common.{◌≡◌, [], replicate}
 use Rattle.must_wait.proofs.rows.Rows.new.Given as goal
 
 abbrev pub invariant-loop-rank : goal.invariant-loop-rank

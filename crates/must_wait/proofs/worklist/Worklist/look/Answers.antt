@@ -1,10 +1,10 @@
-use Rattle.std.proofs.Common.{◌≡◌, ◌<◌, ◌+◌, ℕ, length, List, Some, true, false, sym, arith, ◌∙◌, slice_index, get_or, ap, subst}
+use Rattle.std.proofs.Common.{◌≡◌, ◌<◌, length, Some, true, false, sym, arith, ◌∙◌, slice_index, get_or, subst}
 use Rattle.must_call.specs.declared.place.Place.{Place}
 use Rattle.must_find.specs.Listing.{Has}
 use Rattle.must_wait.specs.Counted.{counted}
 use Rattle.must_wait.specs.Needs.{needs_of}
 use Rattle.must_wait.specs.Replay.{reached}
-use Rattle.must_wait.specs.Watching.{state_of, way_at, ways_in}
+use Rattle.must_wait.specs.Watching.{state_of, way_at}
 use Rattle.must_wait.proofs.Watched.{open_way, wait_settles, copied_is, rank_of_way, index_is, on_ok, on_both, has_at}
 use Rattle.must_wait.proofs.worklist.Worklist.look.Goals as goal
 

@@ -1,4 +1,4 @@
-use Rattle.std.proofs.Common.{◌≡◌, ◌<◌, ◌≤◌, ◌+◌, ◌∙◌, ℕ, length, get_or, sym, arith, subst, inl, inr}
+use Rattle.std.proofs.Common.{◌∙◌, get_or, sym, arith, subst, inl, inr}
 use Rattle.std.proofs.lemmas.Bool.{cases_order}
 use Rattle.std.proofs.lemmas.List.{get_or_default}
 use Rattle.must_wait.specs.declared.worklist.Watch.{Watch}

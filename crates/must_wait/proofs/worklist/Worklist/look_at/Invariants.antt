@@ -1,7 +1,7 @@
-use Rattle.std.proofs.Common.{◌≡◌, ◌≤◌, ◌+◌, ℕ, ◌<◌, length, get_or, sum}
+use Rattle.std.proofs.Common.{ℕ, ◌<◌, length, get_or}
 use Rattle.must_wait.specs.declared.worklist.Watch.{Watch}
 use Rattle.must_wait.specs.Needs.{needs_of}
-use Rattle.must_wait.specs.Watching.{State, state_of, slot, taken, watches_at, ways_in, IsReady, Steps, IsSettled}
+use Rattle.must_wait.specs.Watching.{state_of, slot, taken, ways_in, Steps, IsSettled}
 use Rattle.must_wait.proofs.worklist.Worklist.look_at.Given as goal
 
 abbrev pub invariant-loop-way : goal.invariant-loop-way

@@ -1,4 +1,4 @@
-use Rattle.std.proofs.Common.{◌≡◌, ◌<◌, ◌+◌, ℕ, true, length, sym, ap, ◌∙◌, refl, arith, slice_index}
+use Rattle.std.proofs.Common.{◌<◌, ◌+◌, length, sym, ap, ◌∙◌, refl, arith, slice_index}
 use Rattle.std.proofs.lemmas.List.{get_or-set_same}
 use Rattle.must_wait.specs.Counted.{counted}
 use Rattle.must_wait.specs.Needs.{needs_of}

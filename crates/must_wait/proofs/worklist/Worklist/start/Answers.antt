@@ -1,4 +1,4 @@
-use Rattle.std.proofs.Common.{◌≡◌, ◌++◌, List, slice_index, ◌<◌, ◌≤◌, ◌+◌, ◌∷◌, [], ◌∙◌, ℕ, length, sym, arith, subst, ap, length-append}
+use Rattle.std.proofs.Common.{◌≡◌, ◌++◌, List, slice_index, ◌<◌, ◌≤◌, ◌+◌, ◌∷◌, [], ℕ, length, sym, arith, subst, ap, length-append}
 use Rattle.must_wait.specs.Needs.{calls_of}
 use Rattle.must_wait.proofs.Rounds.{some_get}
 use Rattle.must_wait.proofs.Watched.{start_sound, more_slots, calls_at, rank_of_call}

@@ -1,4 +1,4 @@
-use Rattle.std.proofs.Common.{◌≡◌, ◌++◌, ◌∷◌, [], ◌<◌, ◌+◌, ℕ, length, sym, arith, ◌∙◌, slice_index, ap}
+use Rattle.std.proofs.Common.{◌++◌, ◌∷◌, [], ◌<◌, ◌+◌, length, sym, arith, ◌∙◌, slice_index, ap}
 use Rattle.must_wait.specs.Watching.{state_of}
 use Rattle.must_wait.proofs.Watched.{wait_push, wait_has, index_is, rank_of_call}
 use Rattle.must_wait.proofs.worklist.Worklist.wait.Goals as goal

@@ -3,7 +3,7 @@ use Rattle.std.specs.Option.{is_some}
 use Rattle.must_call.specs.declared.place.Place.{Place}
 use Rattle.must_find.specs.Listing.{Has}
 use Rattle.must_wait.specs.Keeping.{kept_call}
-use Rattle.must_wait.proofs.deadlock.calls_by_rank.Given as goal
+use Rattle.must_wait.proofs.dropping.calls_by_rank.Given as goal
 
 abbrev pub invariant-loop-place : goal.invariant-loop-place
 invariant-loop-place l = record {

@@ -1,4 +1,4 @@
-use Rattle.std.proofs.Common.{◌≡◌, ◌<◌, ◌≤◌, ◌∙◌, ℕ, true, Some, length, get_or, sym, ap, arith, refl, subst, inl, inr}
+use Rattle.std.proofs.Common.{◌≡◌, ◌<◌, ◌∙◌, true, Some, length, get_or, ap, arith, inl, inr}
 use Rattle.std.specs.Option.{is_some}
 use Rattle.std.proofs.lemmas.Bool.{cases_order}
 use Rattle.std.proofs.lemmas.List.{length-set, get_or_default}
@@ -6,7 +6,7 @@ use Rattle.must_call.specs.declared.place.Place.{Place}
 use Rattle.must_wait.specs.Keeping.{kept_call}
 use Rattle.must_wait.proofs.Kept.{set_calls, set_some, each_place}
 use Rattle.must_wait.proofs.Watched.{has_at}
-use Rattle.must_wait.proofs.deadlock.calls_by_rank.Goals as goal
+use Rattle.must_wait.proofs.dropping.calls_by_rank.Goals as goal
 
 pub index_mut-requires : goal.index_mut-requires
 index_mut-requires c =
