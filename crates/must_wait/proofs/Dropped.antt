@@ -17,9 +17,6 @@ use Rattle.must_wait.proofs.Listed.{has_more, has_last, has_or}
 use Rattle.must_wait.proofs.Rounds.{and_both}
 use Rattle.must_wait.proofs.Watched.{set_more, index_is, all_at}
 
-pub no_core_step : (rows : Rows) (s : CoreState) → IsCoreReady rows s → CoreSteps rows s s
-no_core_step rows s r = record { ready = r; keeps = λ rank way. inr (refl, λ w. w); less = λ rank call e. e; rounds = λ blocked list k. k; count = omega arith }
-
 pub both_core_steps : (rows : Rows) (s t u : CoreState) → CoreSteps rows s t → CoreSteps rows t u → CoreSteps rows s u
 both_core_steps rows s t u a b = record {
   ready = b.ready;
@@ -135,9 +132,6 @@ free_none held (Some (way ∷ ways)) e = absurd (omega arith)
 pub call_at : (o : Option ℕ) (call : ℕ) → is_call_at o call ≡ true → o ≡ Some call
 call_at None call e = absurd (true≢false (sym e))
 call_at (Some kept) call e = ap Some (eqb-true kept call e)
-
-pub not_call_at : (o : Option ℕ) (call : ℕ) → is_call_at o call ≡ false → o ≡ Some call → ⊥
-not_call_at o call e is = true≢false (sym (ap (λ p. is_call_at p call) is ∙ eq-eqb call call refl) ∙ e)
 
 -- looking at the watches of a dropped rank
 own_or_taken : (rows : Rows) (s : CoreState) (at rank way : ℕ) → IsHeldWay rows (with_dropped s at) rank way → (call : ℕ) (places : List Place) → kept_call s.kept rank ≡ Some call → way_at rows rank call way ≡ Some places

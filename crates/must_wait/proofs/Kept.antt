@@ -12,9 +12,8 @@ use Rattle.must_find.specs.Listing.{Has, Lists}
 use Rattle.must_wait.specs.Core.{blocked_at, holds, is_held, needs_at, kept_in, IsCore}
 use Rattle.must_wait.specs.Keeping.{kept_call, behind, holds_yet, kept_count, IsKept, AllHeld}
 use Rattle.must_wait.specs.Needs.{Needs, Rows, needs_of}
-use Rattle.must_wait.specs.Replay.{follows, reached, passed, IsBlocked, IsBlockedList}
+use Rattle.must_wait.specs.Replay.{reached, passed, IsBlocked, IsBlockedList}
 use Rattle.must_wait.proofs.Listed.{rises_last, has_more, has_last, has_or, less_is, same_place, listed_as}
-use Rattle.must_wait.proofs.Watched.{rank_of_call}
 use Rattle.must_wait.proofs.Rounds.{and_left, and_right, and_both, all_more, any_more, reached_to, reached_from}
 
 pub held_more : (p q : Place → Bool) → ((place : Place) → p place ≡ true → q place ≡ true) → (needs : Option Needs) → is_held p needs ≡ true → is_held q needs ≡ true
@@ -174,9 +173,6 @@ start_kept rows blocked kept len calls all = record {
 abbrev pub KeptBelow : List (Option ℕ) → ℕ → ℕ → Type 0
 KeptBelow kept at rank = (rank < at) × (is_some (kept_call kept rank) ≡ true)
 
-pub none_kept : (kept : List (Option ℕ)) → Lists nat_cmp (KeptBelow kept 0) []
-none_kept kept = record { rises = tt; exact = λ x. (λ h. absurd h, λ h. absurd (omega (arith, h.0))) }
-
 pub kept_push : (kept : List (Option ℕ)) (at : ℕ) (ranks : List ℕ) → is_some (kept_call kept at) ≡ true → Lists nat_cmp (KeptBelow kept at) ranks → Lists nat_cmp (KeptBelow kept (at + 1)) (ranks ++ at ∷ [])
 kept_push kept at ranks e l = record {
   rises = rises_last nat_cmp ranks at l.rises (λ y h. less_is y at ((l.exact y).0 h).0);
@@ -240,9 +236,3 @@ none_at : (n k : ℕ) → kept_call (replicate n None) k ≡ None
 none_at zero k = refl
 none_at (suc n) zero = refl
 none_at (suc n) (suc k) = none_at n k
-
-pub no_calls : (blocked : List Place) (n : ℕ) (calls : List (Option ℕ)) → calls ≡ replicate n None → (rank call : ℕ) → kept_call calls rank ≡ Some call → Has blocked (record { rank = rank; call = call })
-no_calls blocked n calls e rank call h = absurd (let none : kept_call calls rank ≡ None = ap (λ l. kept_call l rank) e ∙ none_at n rank in let clash : None ≡ Some call = sym none ∙ h in cc)
-
-pub blocked_rank : (rows : Rows) (blocked : List Place) → IsBlockedList rows blocked → (p : Place) → Has blocked p → p.rank < length rows
-blocked_rank rows blocked list p h = rank_of_call rows p.rank p.call (and_left (is_some (needs_of rows p.rank p.call)) (follows (passed rows) p.rank p.call) ((list.exact p).0 h).is_reached)

@@ -44,9 +44,6 @@ watch_last (v ∷ ws) w = inr (watch_last ws w)
 pub keeps_none : (rows : Rows) (s : State) → Keeps rows s s
 keeps_none rows s rank way = inr (refl, λ w. w)
 
-pub no_step : (rows : Rows) (s : State) → IsReady rows s → Steps rows s s
-no_step rows s r = record { ready = r; keeps = keeps_none rows s; fresh = omega arith }
-
 pub keeps_both : (rows : Rows) (s t u : State) → Keeps rows s t → Keeps rows t u → Keeps rows s u
 keeps_both rows s t u a b rank way = elim (b rank way) [
   | inl w ↦ inl w
@@ -177,9 +174,6 @@ set_more watches i w h at rank call way x = elim (cases_eq at i) [
       (watch_more (get_or watches i []) w rank call way (subst (λ a. HasWatch (get_or watches a []) rank call way) same x))
   | inr ne ↦ subst (λ l. HasWatch l rank call way) (sym (get_or-set_other watches i at (get_or watches i [] ++ w ∷ []) [] ne)) x
 ]
-
-pub set_last : (watches : List (List Watch)) (i : ℕ) (w : Watch) → i < length watches → HasWatch (get_or (set watches i (get_or watches i [] ++ w ∷ [])) i []) w.rank w.call w.way
-set_last watches i w h = subst (λ l. HasWatch l w.rank w.call w.way) (sym (get_or-set_same watches i (get_or watches i [] ++ w ∷ []) [] h)) (watch_last (get_or watches i []) w)
 
 -- a way all of whose places are reached
 pub all_at : {X : Type 0} (p : X → Bool) (xs : List X) → ((k : ℕ) (d : X) → k < length xs → p (get_or xs k d) ≡ true) → list_all p xs ≡ true
@@ -381,11 +375,6 @@ start_sound rows done e = subst (IsSound rows) (sym e) (record {
   calls = λ rank. omega (arith, zero_at (length rows) rank);
   sound = λ rank call h. absurd (omega (arith, ltb-true call (get_or (replicate (length rows) 0) rank 0) h, zero_at (length rows) rank));
 })
-
-pub start_watched : (rows : Rows) (s : State) → s.done ≡ replicate (length rows) 0 → ((rank : ℕ) → is_some (needs_of rows rank 0) ≡ true → HasPlace s.fresh rank 0) → AllWatched rows s
-start_watched rows s e first rank way places is =
-    let none : slice_index s.done rank ≡ 0 = ap (λ l. get_or l rank 0) e ∙ zero_at (length rows) rank in
-    inl (subst (λ k. HasPlace s.fresh rank k) (sym none) (first rank (way_in_call (needs_of rows rank 0) way places (subst (λ k. way_at rows rank k way ≡ Some places) none is))))
 
 pub first_push : (rows : Rows) (calls more : List Place) (at : ℕ) (p : Place) → p.rank ≡ at → p.call ≡ 0 → is_some (needs_of rows at 0) ≡ true → more ≡ calls ++ p ∷ []
     → ((rank : ℕ) → rank < at → is_some (needs_of rows rank 0) ≡ true → HasPlace calls rank 0)
