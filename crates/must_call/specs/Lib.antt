@@ -1,2 +1,11 @@
 pub mod Basics
 pub mod Kinds
+pub mod Names
+pub mod Fields
+pub mod Values
+pub mod Bodies
+pub mod Arguments
+pub mod BodyLaws
+pub mod Reading
+pub mod Numbers
+pub mod Handles

@@ -1,27 +1,25 @@
 -- One turn of the analysis, and its answers.
-use Rattle.std.proofs.Common.{◌≡◌, ℕ, zero, suc, ◌+◌, ◌<◌, ◌≤◌, List, [], ◌∷◌, length, map, get_or, Option, Some, None, Result, Ok, Err, refl, sym, ap, subst, ◌∙◌, inl, inr, arith, zero-add}
+use Rattle.std.proofs.Common.{◌≡◌, ℕ, zero, suc, ◌+◌, ◌<◌, ◌≤◌, List, [], ◌∷◌, length, map, get_or, Option, Some, None, Err, refl, sym, ap, subst, ◌∙◌, inl, inr, arith, zero-add}
 use Rattle.std.proofs.Math.ListN.{set}
 use Rattle.std.specs.Prelude.{slice_get}
 use Rattle.std.specs.Option.{option_map}
 use Rattle.std.specs.List.{AllByRecursion}
 use Rattle.std.proofs.lemmas.Bool.{cases_order}
 use Rattle.std.proofs.lemmas.List.{length-map, length-set, get_or-set_same, get_or-set_other}
-use Rattle.std.proofs.lemmas.Option.{slice_get-map, slice_get-get_or, slice_get_within}
+use Rattle.std.proofs.lemmas.Option.{slice_get-map, slice_get-get_or}
 use Rattle.must_base.specs.Causes.{Rose}
-use Rattle.must_call.specs.declared.call.Call.{Call}
 use Rattle.must_format.specs.declared.fault.StreamFault.{StreamFault}
 use Rattle.must_format.specs.declared.fault.StreamFault.TheVariants as fault
 use Rattle.must_format.specs.Stream.{Accepted}
 use Rattle.must_find.specs.declared.finding.Finding.{Finding}
 use Rattle.must_find.specs.Listing.{Rises}
 use Rattle.must_find.specs.Order.{by_all}
-use Rattle.must_rules.specs.Run.{Run, Mode, Strict}
-use Rattle.must_rules.specs.Streams.{Records}
+use Rattle.must_rules.specs.Run.{Strict}
 use Rattle.must_rules.specs.Walk.{HasRowsBefore}
 use Rattle.must_rules.specs.WalkLaws.{at_start, at_end}
 use Rattle.must_rules.specs.StreamRuns.{AreComplete, run_of, next_rank}
 use Rattle.must_cli.specs.Outside.{Part, flat, told_at, parts_of, HasFailed}
-use Rattle.must_cli.specs.Promises.{AreTold, IsAccepted, AreAccepted, ReadsRun, RunRows, Stops}
+use Rattle.must_cli.specs.Promises.{AreTold, AreAccepted, ReadsRun, RunRows}
 use Rattle.must_cli.specs.Walk.{ReadsRank, IsFaultOf, HasRowsBelow, Analyses, fault_at}
 
 -- ---- the bytes of a rank

@@ -1,19 +1,19 @@
 -- The promises of the program, from what the check of its files answers.
-use Rattle.std.proofs.Common.{◌≡◌, ℕ, ◌<◌, List, length, map, Option, Some, None, refl, sym, ap, subst, ◌∙◌, inl, inr, arith}
+use Rattle.std.proofs.Common.{◌≡◌, ℕ, List, length, map, Option, Some, None, refl, sym, ap, subst, ◌∙◌, inl, inr, arith}
 use Rattle.std.specs.Prelude.{◌⊎◌, ◌≢◌, slice_get}
 use Rattle.std.proofs.lemmas.Bool.{cases_order}
 use Rattle.std.proofs.lemmas.List.{length-map}
 use Rattle.must_call.specs.declared.call.Call.{Call}
 use Rattle.must_format.specs.declared.fault.StreamFault.{StreamFault}
 use Rattle.must_format.specs.declared.fault.StreamFault.TheVariants as fault
-use Rattle.must_format.specs.Stream.{Accepted, Refused}
+use Rattle.must_format.specs.Stream.{Accepted}
 use Rattle.must_format.specs.StreamLaws.{refused_is_one, accepted_or_refused}
 use Rattle.must_rules.specs.Streams.{Records}
 use Rattle.must_cli.specs.declared.status.Status.{Status}
 use Rattle.must_cli.specs.declared.status.Status.TheVariants as status
-use Rattle.must_cli.specs.Command.{Command, Check, command}
+use Rattle.must_cli.specs.Command.{Check, command}
 use Rattle.must_cli.specs.Outside.{Part, Output, Outside, told_at}
-use Rattle.must_cli.specs.Promises.{Promises, Answers, IsSuccess, IsRefusal, is_found, status_for, IsAccepted, AreAccepted, IsRefused, IsKnownAccepted, IsKnownRefused, StopsAt, WholeReport, RefusedStream, OutsideFault, WantOfMemory, RefusesLowest, ReportsComplete}
+use Rattle.must_cli.specs.Promises.{Promises, Answers, IsSuccess, IsRefusal, is_found, status_for, IsAccepted, IsRefused, IsKnownAccepted, IsKnownRefused, StopsAt, WholeReport, RefusedStream, OutsideFault, WantOfMemory, RefusesLowest, ReportsComplete}
 use Rattle.must_cli.proofs.Analysing.{told_within, told_of, stream_at}
 
 not_both : (told : List (Option (List ℕ))) (rank : ℕ) (f : StreamFault) → IsAccepted told rank → IsKnownRefused told rank f → ⊥

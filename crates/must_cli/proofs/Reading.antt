@@ -1,10 +1,10 @@
 -- One turn of reading a rank's stream.
-use Rattle.std.proofs.Common.{◌≡◌, ℕ, ◌+◌, List, [], ◌∷◌, ◌++◌, length, Option, Some, None, Result, Ok, Err, refl, sym, ap, subst, ◌∙◌, arith, length-append}
+use Rattle.std.proofs.Common.{◌≡◌, ℕ, ◌+◌, List, [], ◌∷◌, ◌++◌, length, Option, Some, None, Result, Ok, Err, refl, sym, ap, subst, ◌∙◌, length-append}
 use Rattle.must_call.specs.declared.call.Call.{Call}
 use Rattle.must_format.specs.declared.fault.StreamFault.{StreamFault}
 use Rattle.must_format.specs.declared.fault.StreamFault.TheVariants as fault
-use Rattle.must_format.specs.Stream.{IsStream, Accepted, Refused}
-use Rattle.must_format.specs.Reader.{Phase, ReaderState, StandsFor, Gave, Continues, IsVerdict, Fresh, Before, Ended, Failed}
+use Rattle.must_format.specs.Stream.{IsStream}
+use Rattle.must_format.specs.Reader.{Phase, ReaderState, StandsFor, Gave, Continues, IsVerdict, Fresh, Failed}
 use Rattle.must_codec.specs.Views.{IsBefore, Leaves}
 use Rattle.std.specs.Prelude.{IfErr}
 use Rattle.must_find.specs.declared.finding.Finding.{Finding}

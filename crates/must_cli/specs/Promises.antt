@@ -10,12 +10,12 @@ use Rattle.must_format.specs.Stream.{Accepted, Refused}
 use Rattle.must_find.specs.declared.finding.Finding.{Finding}
 use Rattle.must_find.specs.Rules.{usual_severities}
 use Rattle.must_find.specs.Report.{shown, report_of}
-use Rattle.must_rules.specs.Run.{Run, Mode, Strict}
+use Rattle.must_rules.specs.Run.{Run, Strict}
 use Rattle.must_rules.specs.Rows.{IsRows}
 use Rattle.must_rules.specs.Streams.{Records}
 use Rattle.must_cli.specs.declared.status.Status.{Status}
 use Rattle.must_cli.specs.declared.status.Status.TheVariants as status
-use Rattle.must_cli.specs.Command.{Command, Check, command}
+use Rattle.must_cli.specs.Command.{Check, command}
 use Rattle.must_cli.specs.Outside.{Part, Output, Outside, told_at, IsUnchanged, HasFailed, Puts}
 use Rattle.must_cli.specs.Lines.{usage_line, fault_line, write_line, memory_line}
 

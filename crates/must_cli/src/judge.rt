@@ -18,12 +18,13 @@ const ANY_SOURCE: i32 = -2;
 /// The see and the value of a finding.
 type Answer = (Option<Place>, i128);
 
+/// The count of the call that is judged.
 fn count(body: &Body) -> Option<i32>
     ensures { result ≡ count_of body.now }
 {
     match body {
         Body::Point(Point::Send { count, .. } | Point::Recv { count, .. }) => Some(*count),
-        Body::Frame(_) => None,
+        _ => None,
     }
 }
 
@@ -93,7 +94,7 @@ fn judge_peer(size: u32, call: &Call) -> Option<Answer>
         Body::Point(Point::Recv { source, comm, .. }) => {
             judge_source(member_count(size, *comm), *source)
         }
-        Body::Frame(_) => None,
+        _ => None,
     }
 }
 

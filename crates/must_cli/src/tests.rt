@@ -44,6 +44,84 @@ fn recv(count: i32, source: i32, comm: u8) -> [u8; 43] {
     ]
 }
 
+/// Ssend(4096, -1, INT, 5, tag 0, world), returned.
+const SSEND: [u8; 34] = [
+    4, 0, 0, 0, 0, 28, // kind, flags, length
+    0, 0, 0, 0, 0, 0, 16, 0, // buf
+    255, 255, 255, 255, // count
+    0, 0, 0, 7, // type
+    0, 0, 0, 5, // dest
+    0, 0, 0, 0, // tag
+    0, 0, 0, 1, // comm
+];
+
+/// Irecv(8192, -1, INT, 5, tag 0, world; request 64), returned.
+const IRECV: [u8; 38] = [
+    15, 0, 0, 0, 0, 32, // kind, flags, length
+    0, 0, 0, 0, 0, 0, 32, 0, // buf
+    255, 255, 255, 255, // count
+    0, 0, 0, 7, // type
+    0, 0, 0, 5, // source
+    0, 0, 0, 0, // tag
+    0, 0, 0, 1, // comm
+    0, 0, 0, 64, // request
+];
+
+/// Wait(request 64; 0, 0), returned.
+const WAIT: [u8; 19] = [
+    16, 0, 0, 0, 0, 13, // kind, flags, length
+    0, 0, 0, 64, // request
+    0, 0, 0, 0, 0, 0, 0, 0, 0, // status
+];
+
+/// A record of Waitany(request 64; index, 0, 0), returned.
+fn waitany(index: i32) -> [u8; 27] {
+    let i = index.to_be_bytes();
+    [
+        18, 0, 0, 0, 0, 21, // kind, flags, length
+        0, 0, 0, 1, // number of requests
+        0, 0, 0, 64, // request
+        i[0], i[1], i[2], i[3], // index
+        0, 0, 0, 0, 0, 0, 0, 0, 0, // status
+    ]
+}
+
+/// TypeContiguous(-1, INT; type 65), returned.
+const TYPE_CONTIGUOUS: [u8; 18] = [
+    26, 0, 0, 0, 0, 12, // kind, flags, length
+    255, 255, 255, 255, // count
+    0, 0, 0, 7, // old
+    0, 0, 0, 65, // made
+];
+
+/// CommDup(world; communicator 66 of rank 0), returned.
+const COMM_DUP: [u8; 22] = [
+    48, 0, 0, 0, 0, 16, // kind, flags, length
+    0, 0, 0, 1, // comm
+    0, 0, 0, 66, // made
+    0, 0, 0, 1, // number of members
+    0, 0, 0, 0, // member
+];
+
+/// Barrier(world), returned.
+const BARRIER: [u8; 10] = [
+    52, 0, 0, 0, 0, 4, // kind, flags, length
+    0, 0, 0, 1, // comm
+];
+
+/// Reduce(not in place, 4096, 8192, -1, INT, SUM, root 5, world), returned.
+const REDUCE: [u8; 43] = [
+    62, 0, 0, 0, 0, 37, // kind, flags, length
+    0, // in_place
+    0, 0, 0, 0, 0, 0, 16, 0, // sbuf
+    0, 0, 0, 0, 0, 0, 32, 0, // rbuf
+    255, 255, 255, 255, // count
+    0, 0, 0, 7, // type
+    0, 0, 0, 3, // op
+    0, 0, 0, 5, // root
+    0, 0, 0, 1, // comm
+];
+
 /// The front of a rank's stream: the header with tags up to 32767, and Init.
 fn front(alloc: Global, rank: u32, size: u32) -> Result<Vec<u8>, Fail> {
     let mut bytes = Vec::from_slice(alloc, b"MTRC\x01")?;
@@ -274,6 +352,33 @@ fn reports_of_one_rank(rt: HostRuntime) -> Result<(), Fail> {
         &found(
             "rank 0 call 1 part 0: error A2 peer out of range, see -, value -2\nrank 0 call 3 part 0: error A1 negative count, see -, value -5\nrank 0 call 3 part 0: error A2 peer out of range, see -, value 1\nviolations 3\n",
         ),
+    )
+}
+
+#[test]
+fn kinds_without_a_rule(rt: HostRuntime) -> Result<(), Fail> {
+    let alloc = rt.alloc();
+    one_rank(
+        &rt,
+        alloc,
+        &[
+            &SSEND,
+            &IRECV,
+            &WAIT,
+            &TYPE_CONTIGUOUS,
+            &COMM_DUP,
+            &BARRIER,
+            &REDUCE,
+        ],
+        &CLEAN,
+    )?;
+    // An index is below the number of requests.
+    one_rank(&rt, alloc, &[&IRECV, &waitany(0)], &CLEAN)?;
+    one_rank(
+        &rt,
+        alloc,
+        &[&IRECV, &waitany(1)],
+        &malformed("rank 0 malformed at 61: Field\n"),
     )
 }
 

@@ -11,16 +11,16 @@ use Rattle.must_format.specs.declared.cause.Cause.TheVariants as cause
 use Rattle.must_format.specs.declared.cause.Limit.TheVariants as limit
 use Rattle.must_format.specs.declared.fault.StreamFault.{StreamFault}
 use Rattle.must_format.specs.declared.fault.StreamFault.TheVariants.{Bound}
-use Rattle.must_format.specs.Values.{u32}
+use Rattle.must_format.specs.Values.{IsBytes, u32}
 use Rattle.must_format.specs.Spelling.{Spells, IsKnown, record_text, end_text}
 use Rattle.must_format.specs.Decoding.{call_at}
 use Rattle.must_format.specs.Record.{Front, Whole, End, More, Bad, front}
 use Rattle.must_format.specs.Stream.{Coming, IsStream, Next, Done, Stop, stop, byte_limit, call_limit, coming_front, coming, behind_call, IsReading, BodyReading, Accepted, header_fault, version_of, start}
 use Rattle.must_format.specs.Complete.{SpellAll, FollowReturned, IsComplete}
-use Rattle.must_codec.proofs.Numbers.{IsBytes, IsBytes-drop, IsBytes-take, length-u32}
-use Rattle.must_codec.proofs.Found.{chosen, front_spells}
-use Rattle.must_codec.proofs.Spelled.{spelled_front}
-use Rattle.must_codec.proofs.EndRecord.{end_is, end_again}
+use Rattle.must_format.specs.LeafLaws.{IsBytes-drop, IsBytes-take, length-u32}
+use Rattle.must_format.specs.FoundLaws.{chosen, front_spells}
+use Rattle.must_format.specs.SpelledLaws.{spelled_front}
+use Rattle.must_format.specs.EndLaws.{end_is, end_again}
 use Rattle.must_codec.proofs.Longer.{done_within}
 
 end_length : (m : ℕ) → length (end_text m) ≡ 10

@@ -1,14 +1,3 @@
-pub mod Numbers
-pub mod Texts
-pub mod Fields
-pub mod Again
-pub mod Good
-pub mod KindTable
-pub mod Found
-pub mod Spelled
-pub mod EndRecord
-pub mod Spellable
-pub mod Loops
 pub mod Longer
 pub mod Headers
 pub mod Opening

@@ -9,8 +9,8 @@ use Rattle.must_format.specs.declared.fault.StreamFault.TheVariants.{Bound}
 use Rattle.must_format.specs.Decoding.{call_at}
 use Rattle.must_format.specs.Record.{Front, Whole, End, More, Bad, front}
 use Rattle.must_format.specs.Stream.{Next, Done, Stop, stop, coming_front, coming, byte_limit, call_limit}
-use Rattle.must_codec.proofs.Found.{chosen}
-use Rattle.must_codec.proofs.EndRecord.{end_long}
+use Rattle.must_format.specs.FoundLaws.{chosen}
+use Rattle.must_format.specs.EndLaws.{end_long}
 
 room_long : (version n : ℕ) (p : StreamPlace) (bytes : List ℕ) (m : ℕ) → front version (take (byte_limit n - p.at) bytes) ≡ End m → (10 ≤ byte_limit n - p.at) × (10 ≤ length bytes)
 room_long version n p bytes m e =

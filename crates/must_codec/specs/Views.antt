@@ -1,53 +1,17 @@
 -- What the steps of the code say.
-use Rattle.std.specs.Prelude.{◌≡◌, ℕ, ◌+◌, ◌≤◌, ◌<◌, Bool, List, length, Option, Some, None, Result, Ok, Err}
+use Rattle.std.specs.Prelude.{◌≡◌, ℕ, ◌+◌, ◌≤◌, ◌<◌, List, length, Option, Some, None, Result, Ok, Err}
 use Rattle.must_call.specs.declared.call.Call.{Call}
-use Rattle.must_call.specs.declared.call.Body.{Body}
 use Rattle.must_format.specs.declared.place.StreamPlace.{StreamPlace}
 use Rattle.must_format.specs.declared.header.Header.{Header}
 use Rattle.must_format.specs.declared.fault.StreamFault.{StreamFault}
 use Rattle.must_format.specs.declared.fault.StreamFault.TheVariants as fault
-use Rattle.must_format.specs.Record.{Front, Whole, End, More, Bad, Sized, Payload, Short, Long}
 use Rattle.must_format.specs.Decoding.{call_at}
 use Rattle.must_format.specs.Payload.{record_length}
 use Rattle.must_format.specs.Stream as stream
 use Rattle.must_format.specs.Stream.{Coming, coming, behind_call, header_fault, header_of}
 use Rattle.must_format.specs.Reader.{Phase, Fresh, Before, Ended, Failed, ReaderState, StandsFor, IsVerdict}
-use Rattle.must_codec.specs.declared.record.Step.{Step}
-use Rattle.must_codec.specs.declared.record.Step.TheVariants as step
-use Rattle.must_codec.specs.declared.record.Framed.{Framed}
-use Rattle.must_codec.specs.declared.record.Framed.TheVariants as framed
 use Rattle.must_codec.specs.declared.arrival.Arrival.{Arrival}
 use Rattle.must_codec.specs.declared.arrival.Arrival.TheVariants as arrival
-
-abbrev pub call_of : Bool → Body → Call
-call_of returned body = record { returned = returned; body = body }
-
--- ---- a record
-
--- the step, seen
-abbrev pub seen : Step → Front
-seen (step.Whole view len) = Whole view.kind view.returned view.payload.now
-seen (step.End calls len) = End calls
-seen step.More = More
-seen (step.Bad cause) = Bad cause
-
--- the length of a record that is whole, where so many bytes stand
-abbrev pub HasLen : Step → ℕ → Type 0
-HasLen (step.Whole view len) n = (len ≡ 6 + length view.payload.now) × (len ≤ n)
-HasLen (step.End calls len) n = (len ≡ 10) × (10 ≤ n)
-HasLen step.More n = Unit {0}
-HasLen (step.Bad cause) n = Unit {0}
-
-abbrev pub size_seen : Framed → Sized
-size_seen (framed.Payload p) = Payload p.now
-size_seen framed.Short = Short
-size_seen framed.Long = Long
-
--- a payload stands behind the four bytes of its length
-abbrev pub IsFramed : Framed → ℕ → Type 0
-IsFramed (framed.Payload p) n = (length p.now ≤ 1048576) × (4 + length p.now ≤ n)
-IsFramed framed.Short n = Unit {0}
-IsFramed framed.Long n = Unit {0}
 
 -- ---- a step of a stream
 

@@ -2,12 +2,12 @@
 
 ghost use Rattle.std.specs.Prelude.{◌≡◌, ◌≤◌, ◌+◌, ◌-◌, ◌^◌, ◌<◌, take, length};
 ghost use Rattle.must_format.specs.Stream.{coming, coming_front, byte_limit};
-ghost use Rattle.must_codec.specs.Views.{seen, HasLen, coming_seen, IsWithin, Comes, IsBehind};
+ghost use Rattle.must_record.specs.Views.{seen, HasLen};
+ghost use Rattle.must_codec.specs.Views.{coming_seen, IsWithin, Comes, IsBehind};
 
-use crate::record::{Step, read_record};
-use crate::view::CallView;
 use must_call::Call;
 use must_format::{Cause, Limit, StreamFault, StreamPlace};
+use must_record::{CallView, Step, read_record};
 use std::alloc::Global;
 
 /// The most bytes and calls of all streams of a run.

@@ -1,10 +1,9 @@
 //! Judging a header.
 
-ghost use Rattle.std.specs.Prelude.{◌≡◌};
-ghost use Rattle.must_format.specs.Stream.{header_of};
+ghost use Rattle.std.specs.Prelude.{◌≡◌, ◌+◌, ◌≤◌, length, drop, slice_index};
+ghost use Rattle.must_format.specs.Decoding.{u32_at, i32_at};
 ghost use Rattle.must_codec.specs.Views.{HeaderIs};
 
-use crate::decoding::Cursor;
 use must_format::{Cause, Header, StreamFault};
 
 /// `MTRC` as a number.
@@ -21,15 +20,13 @@ pub fn judge_header(rank: u32, size: u32, bytes: &[u8]) -> Result<Header, Stream
     if bytes.len() < 17 {
         return Err(malformed(0, Cause::Truncated));
     }
-    let mut fields = Cursor { rest: bytes };
-    let mark = fields.u32();
     let header = Header {
-        version: fields.byte(),
-        rank: fields.u32(),
-        size: fields.u32(),
-        tag_ub: fields.i32(),
+        version: byte_at(bytes, 4),
+        rank: unsigned_at(bytes, 5),
+        size: unsigned_at(bytes, 9),
+        tag_ub: signed_at(bytes, 13),
     };
-    if mark != MARK {
+    if unsigned_at(bytes, 0) != MARK {
         return Err(malformed(0, Cause::Magic));
     }
     if header.version != 1 {
@@ -45,6 +42,35 @@ pub fn judge_header(rank: u32, size: u32, bytes: &[u8]) -> Result<Header, Stream
         return Err(malformed(13, Cause::TagUb));
     }
     Ok(header)
+}
+
+/// The byte at an offset.
+fn byte_at(bytes: &[u8], at: usize) -> u8
+    requires { at + 1 ≤ length bytes.now }
+    ensures { result ≡ slice_index (drop at bytes.now) 0 }
+{
+    let (_, rest) = bytes.split_at(at);
+    rest[0]
+}
+
+/// The number in the four bytes at an offset.
+#[tactic(auto, unfolding(must_format::specs::Decoding::u32_at))]
+fn unsigned_at(bytes: &[u8], at: usize) -> u32
+    requires { at + 4 ≤ length bytes.now }
+    ensures { result ≡ u32_at (drop at bytes.now) }
+{
+    let (_, rest) = bytes.split_at(at);
+    u32::from_be_bytes([rest[0], rest[1], rest[2], rest[3]])
+}
+
+/// The number with a sign in the four bytes at an offset.
+#[tactic(auto, unfolding(must_format::specs::Decoding::i32_at))]
+fn signed_at(bytes: &[u8], at: usize) -> i32
+    requires { at + 4 ≤ length bytes.now }
+    ensures { result ≡ i32_at (drop at bytes.now) }
+{
+    let (_, rest) = bytes.split_at(at);
+    i32::from_be_bytes([rest[0], rest[1], rest[2], rest[3]])
 }
 
 fn malformed(at: u64, cause: Cause) -> StreamFault

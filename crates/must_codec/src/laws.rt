@@ -1,22 +1,11 @@
-//! Laws of the format. Each call does nothing; its contract is a fact about all records or streams.
+//! Laws of streams. Each call does nothing; its contract is a fact about all streams.
 
-ghost use Rattle.std.specs.Prelude.{◌≡◌, ◌≤◌, ℕ, List, ◌++◌, length, Option};
+ghost use Rattle.std.specs.Prelude.{◌≡◌, ◌≤◌, ℕ, List, length, Option};
 ghost use Rattle.must_call.specs.declared.call.Call.{Call};
 ghost use Rattle.must_format.specs.declared.fault.StreamFault.{StreamFault};
 ghost use Rattle.must_format.specs.Values.{IsBytes};
-ghost use Rattle.must_format.specs.Spelling.{Spells, IsKnown};
 ghost use Rattle.must_format.specs.Stream.{byte_limit, call_limit, IsStream, Accepted};
 ghost use Rattle.must_format.specs.Complete.{IsComplete};
-
-/// No spelling of a call begins another, and each is of one call.
-pub fn one_spelling()
-    ensures { (c d : Call) (a b x y : List ℕ) → Spells c a → Spells d b → a ++ x ≡ b ++ y → (c ≡ d) × (a ≡ b) }
-{}
-
-/// Version 1 knows every kind.
-pub fn known_kinds()
-    ensures { (call : Call) → IsKnown 1 call }
-{}
 
 /// The bytes of a stream determine its calls, and its end or its refusal.
 pub fn one_reading()

@@ -1,307 +1,20 @@
 //! Streams byte by byte, with the answers of docs/FORMAT.md.
 
+mod cases;
+
 use crate::{
-    Cause, Expect, Limit, Step, StreamFault, StreamReader, complete_streams, fits, known_kinds,
-    one_reading, one_spelling, read_record, write_record,
+    Cause, Expect, Limit, StreamFault, StreamReader, complete_streams, known_kinds, one_reading,
+    one_spelling,
+};
+use cases::{
+    ACCEPTED, COMM_SPLIT, Case, END_0, END_2, END_4, END_8, FINALIZE, HEADER, HEADERS, INIT, ISEND,
+    PAYLOADS, RECORDS, RECV, REDUCE, SEND, TESTSOME, TYPE_STRUCT, WAITALL,
 };
 use must_base::MemSource;
-use must_call::{Body, Call, Frame, Kind, Point, Status3};
+use must_call::{Body, Call, Frame, Point, Status3};
 use std::alloc::Global;
 use std::process::Abort;
 use std::test::Fail;
-
-const HEADER: &[u8] = &[
-    0x4d, 0x54, 0x52, 0x43, 1, 0, 0, 0, 0, 0, 0, 0, 1, 0, 0, 0x7f, 0xff,
-];
-
-const INIT: &[u8] = &[1, 0, 0, 0, 0, 0];
-
-const STUCK_INIT: &[u8] = &[1, 1, 0, 0, 0, 0];
-
-const FINALIZE: &[u8] = &[2, 0, 0, 0, 0, 0];
-
-const SEND: &[u8] = &[
-    3, 0, 0, 0, 0, 28, 0, 0, 0, 0, 0, 0, 16, 0, 255, 255, 255, 255, 0, 0, 0, 7, 0, 0, 0, 0, 0, 0,
-    0, 0, 0, 0, 0, 1,
-];
-
-const RECV: &[u8] = &[
-    7, 0, 0, 0, 0, 37, 0, 0, 0, 0, 0, 0, 16, 0, 0, 0, 0, 1, 0, 0, 0, 7, 255, 255, 255, 254, 255,
-    255, 255, 255, 0, 0, 0, 1, 0, 0, 0, 0, 0, 0, 0, 9, 1,
-];
-
-const STUCK_RECV: &[u8] = &[
-    7, 1, 0, 0, 0, 28, 0, 0, 0, 0, 0, 0, 16, 0, 0, 0, 0, 1, 0, 0, 0, 7, 255, 255, 255, 254, 255,
-    255, 255, 255, 0, 0, 0, 1,
-];
-
-const END_0: &[u8] = &[0, 0, 0, 0, 0, 4, 0, 0, 0, 0];
-
-const END_1: &[u8] = &[0, 0, 0, 0, 0, 4, 0, 0, 0, 1];
-
-const END_2: &[u8] = &[0, 0, 0, 0, 0, 4, 0, 0, 0, 2];
-
-const END_4: &[u8] = &[0, 0, 0, 0, 0, 4, 0, 0, 0, 4];
-
-/// A stream, how many calls it has, and where and why it is refused.
-struct Case {
-    name: &'static str,
-    parts: &'static [&'static [u8]],
-    calls: u32,
-    refused: Option<(u64, Cause)>,
-}
-
-const CASES: &[Case] = &[
-    Case {
-        name: "empty_run",
-        parts: &[HEADER, INIT, FINALIZE, END_2],
-        calls: 2,
-        refused: None,
-    },
-    Case {
-        name: "all_kinds",
-        parts: &[HEADER, INIT, SEND, RECV, FINALIZE, END_4],
-        calls: 4,
-        refused: None,
-    },
-    Case {
-        name: "no_call",
-        parts: &[HEADER, END_0],
-        calls: 0,
-        refused: None,
-    },
-    Case {
-        name: "last_call_did_not_return",
-        parts: &[HEADER, STUCK_RECV, END_1],
-        calls: 1,
-        refused: None,
-    },
-    Case {
-        name: "no_byte",
-        parts: &[],
-        calls: 0,
-        refused: Some((0, Cause::Truncated)),
-    },
-    Case {
-        name: "sixteen_bytes",
-        parts: &[&[0; 16]],
-        calls: 0,
-        refused: Some((0, Cause::Truncated)),
-    },
-    Case {
-        name: "header_alone",
-        parts: &[HEADER],
-        calls: 0,
-        refused: Some((17, Cause::Truncated)),
-    },
-    Case {
-        name: "end_record_cut",
-        parts: &[HEADER, INIT, FINALIZE, &[0, 0, 0, 0, 0, 4, 0, 0, 0]],
-        calls: 2,
-        refused: Some((29, Cause::Truncated)),
-    },
-    Case {
-        name: "payload_cut",
-        parts: &[HEADER, INIT, &[3, 0, 0, 0, 0, 28, 0]],
-        calls: 1,
-        refused: Some((23, Cause::Truncated)),
-    },
-    Case {
-        name: "longest_payload_missing",
-        parts: &[HEADER, &[1, 0, 0, 16, 0, 0]],
-        calls: 0,
-        refused: Some((17, Cause::Truncated)),
-    },
-    Case {
-        name: "another_mark",
-        parts: &[&[0x4d, 0x54, 0x52, 0x44], &[0; 13]],
-        calls: 0,
-        refused: Some((0, Cause::Magic)),
-    },
-    Case {
-        name: "version_2",
-        parts: &[&[0x4d, 0x54, 0x52, 0x43, 2], &[9; 12]],
-        calls: 0,
-        refused: Some((4, Cause::Version)),
-    },
-    Case {
-        name: "version_0",
-        parts: &[&[0x4d, 0x54, 0x52, 0x43, 0], &[9; 12]],
-        calls: 0,
-        refused: Some((4, Cause::Version)),
-    },
-    Case {
-        name: "another_rank_and_size",
-        parts: &[
-            &[0x4d, 0x54, 0x52, 0x43, 1],
-            &[0, 0, 0, 1],
-            &[0, 0, 0, 2],
-            &[0; 4],
-        ],
-        calls: 0,
-        refused: Some((5, Cause::WrongRank)),
-    },
-    Case {
-        name: "another_size",
-        parts: &[
-            &[0x4d, 0x54, 0x52, 0x43, 1],
-            &[0, 0, 0, 0],
-            &[0, 0, 0, 2],
-            &[0; 4],
-        ],
-        calls: 0,
-        refused: Some((9, Cause::WrongSize)),
-    },
-    Case {
-        name: "small_tag_ub",
-        parts: &[
-            &[0x4d, 0x54, 0x52, 0x43, 1],
-            &[0, 0, 0, 0],
-            &[0, 0, 0, 1],
-            &[0, 0, 0x7f, 0xfe],
-            INIT,
-        ],
-        calls: 0,
-        refused: Some((13, Cause::TagUb)),
-    },
-    Case {
-        name: "negative_tag_ub",
-        parts: &[
-            &[0x4d, 0x54, 0x52, 0x43, 1],
-            &[0, 0, 0, 0],
-            &[0, 0, 0, 1],
-            &[255, 255, 255, 255],
-        ],
-        calls: 0,
-        refused: Some((13, Cause::TagUb)),
-    },
-    Case {
-        name: "large_tag_ub",
-        parts: &[
-            &[0x4d, 0x54, 0x52, 0x43, 1],
-            &[0, 0, 0, 0],
-            &[0, 0, 0, 1],
-            &[0x7f, 255, 255, 255],
-            END_0,
-        ],
-        calls: 0,
-        refused: None,
-    },
-    Case {
-        name: "unknown_kind",
-        parts: &[HEADER, &[68, 0, 0, 0, 0, 0], FINALIZE, END_2],
-        calls: 0,
-        refused: Some((17, Cause::Kind)),
-    },
-    Case {
-        name: "kind_of_a_later_version_alone",
-        parts: &[HEADER, INIT, &[71]],
-        calls: 1,
-        refused: Some((23, Cause::Kind)),
-    },
-    Case {
-        name: "flags_above_1",
-        parts: &[HEADER, INIT, &[2, 2]],
-        calls: 1,
-        refused: Some((23, Cause::Flags)),
-    },
-    Case {
-        name: "end_record_with_flags",
-        parts: &[HEADER, INIT, &[0, 1]],
-        calls: 1,
-        refused: Some((23, Cause::Flags)),
-    },
-    Case {
-        name: "payload_of_a_call_without_fields",
-        parts: &[HEADER, &[1, 0, 0, 0, 0, 1, 0], FINALIZE, END_2],
-        calls: 0,
-        refused: Some((17, Cause::Length)),
-    },
-    Case {
-        name: "length_above_the_greatest",
-        parts: &[HEADER, &[1, 0, 0, 16, 0, 1]],
-        calls: 0,
-        refused: Some((17, Cause::Length)),
-    },
-    Case {
-        name: "field_cut_by_the_length",
-        parts: &[HEADER, &[3, 0, 0, 0, 0, 27], &[0; 27]],
-        calls: 0,
-        refused: Some((17, Cause::Length)),
-    },
-    Case {
-        name: "byte_left_over",
-        parts: &[HEADER, &[3, 0, 0, 0, 0, 29], &[0; 29]],
-        calls: 0,
-        refused: Some((17, Cause::Length)),
-    },
-    Case {
-        name: "status_missing",
-        parts: &[HEADER, &[7, 0, 0, 0, 0, 28], &[0; 28]],
-        calls: 0,
-        refused: Some((17, Cause::Length)),
-    },
-    Case {
-        name: "status_where_the_call_did_not_return",
-        parts: &[HEADER, &[7, 1, 0, 0, 0, 37], &[0; 37]],
-        calls: 0,
-        refused: Some((17, Cause::Length)),
-    },
-    Case {
-        name: "end_record_of_three_bytes",
-        parts: &[HEADER, INIT, &[0, 0, 0, 0, 0, 3, 0, 0, 1]],
-        calls: 1,
-        refused: Some((23, Cause::Length)),
-    },
-    Case {
-        name: "end_record_of_five_bytes",
-        parts: &[HEADER, INIT, &[0, 0, 0, 0, 0, 5, 0, 0, 0, 1, 0]],
-        calls: 1,
-        refused: Some((23, Cause::Length)),
-    },
-    Case {
-        name: "cancelled_is_2",
-        parts: &[HEADER, &[7, 0, 0, 0, 0, 37], &[0; 36], &[2], END_1],
-        calls: 0,
-        refused: Some((17, Cause::Field)),
-    },
-    Case {
-        name: "cancelled_is_2_with_a_byte_left_over",
-        parts: &[HEADER, &[7, 0, 0, 0, 0, 38], &[0; 36], &[2, 0], END_1],
-        calls: 0,
-        refused: Some((17, Cause::Field)),
-    },
-    Case {
-        name: "call_behind_one_that_did_not_return",
-        parts: &[HEADER, STUCK_INIT, FINALIZE, END_2],
-        calls: 1,
-        refused: Some((23, Cause::AfterUnreturned)),
-    },
-    Case {
-        name: "bad_call_behind_one_that_did_not_return",
-        parts: &[HEADER, STUCK_INIT, &[1, 0, 0, 0, 0, 1, 0]],
-        calls: 1,
-        refused: Some((23, Cause::Length)),
-    },
-    Case {
-        name: "one_call_too_few",
-        parts: &[HEADER, INIT, FINALIZE, END_1],
-        calls: 2,
-        refused: Some((29, Cause::EndCount)),
-    },
-    Case {
-        name: "one_call_too_many",
-        parts: &[HEADER, INIT, END_2, &[0]],
-        calls: 1,
-        refused: Some((23, Cause::EndCount)),
-    },
-    Case {
-        name: "lone_end_byte",
-        parts: &[HEADER, INIT, FINALIZE, END_2, &[0]],
-        calls: 2,
-        refused: Some((39, Cause::AfterEnd)),
-    },
-];
 
 /// The calls of a stream, and the answer behind them, which comes again.
 fn read_all(
@@ -331,10 +44,9 @@ fn read_all(
     Err("no end".into())
 }
 
-#[test]
-fn streams_in_pieces(rt: HostRuntime) -> Result<(), Fail> {
-    let alloc = rt.alloc();
-    for case in CASES {
+/// Each stream of a table gives its calls and its answer, in whatever pieces it is read.
+fn check_cases(rt: &impl Abort, alloc: Global, cases: &[Case]) -> Result<(), Fail> {
+    for case in cases {
         for chunk in [1, 2, 5, 4096] {
             let mut bytes = Vec::new(alloc);
             for part in case.parts {
@@ -344,11 +56,31 @@ fn streams_in_pieces(rt: HostRuntime) -> Result<(), Fail> {
                 .refused
                 .map(|(at, cause)| StreamFault::Malformed { at, cause });
             let expect = Expect { rank: 0, size: 1 };
-            let found = read_all(&rt, alloc, expect, bytes, chunk)?;
+            let found = read_all(rt, alloc, expect, bytes, chunk)?;
             assert_eq!(rt; found, (case.calls, refused), "{} by {chunk}", case.name);
         }
     }
     Ok(())
+}
+
+#[test]
+fn accepted_streams(rt: HostRuntime) -> Result<(), Fail> {
+    check_cases(&rt, rt.alloc(), ACCEPTED)
+}
+
+#[test]
+fn refused_headers(rt: HostRuntime) -> Result<(), Fail> {
+    check_cases(&rt, rt.alloc(), HEADERS)
+}
+
+#[test]
+fn refused_records(rt: HostRuntime) -> Result<(), Fail> {
+    check_cases(&rt, rt.alloc(), RECORDS)
+}
+
+#[test]
+fn refused_payloads(rt: HostRuntime) -> Result<(), Fail> {
+    check_cases(&rt, rt.alloc(), PAYLOADS)
 }
 
 /// So many calls, and then the end record.
@@ -414,6 +146,11 @@ fn limits_of_a_stream_among_1024(rt: HostRuntime) -> Result<(), Fail> {
     Ok(())
 }
 
+fn next_call(alloc: Global, reader: &mut StreamReader, src: &mut MemSource) -> Result<Call, Fail> {
+    let next = reader.next(alloc, src).ok().ok_or("a fault")?;
+    Ok(next.ok_or("no call")?)
+}
+
 fn is_send(call: &Call) -> bool {
     matches!(
         call.body,
@@ -429,59 +166,6 @@ fn is_send(call: &Call) -> bool {
 }
 
 #[test]
-fn records_one_by_one(rt: HostRuntime) -> Result<(), Fail> {
-    let alloc = rt.alloc();
-    let mut written = Vec::new(alloc);
-    for record in [INIT, STUCK_INIT, FINALIZE, SEND, RECV, STUCK_RECV] {
-        let Step::Whole { call: view, len } = read_record(1, record) else {
-            return Err("no record".into());
-        };
-        assert_eq!(rt; len as usize, record.len());
-        let call = view.to_call(alloc).ok().ok_or("no memory")?;
-        assert_eq!(rt; call.returned, record[1] == 0);
-        if !fits(&call) {
-            return Err("a call that doesn't fit".into());
-        }
-        written.truncate(0);
-        write_record(alloc, &mut written, &call)
-            .ok()
-            .ok_or("no memory")?;
-        assert_eq!(rt; written.as_slice(), record);
-        assert!(rt; matches!(read_record(2, record), Step::Bad(Cause::Kind)));
-    }
-    assert!(rt; matches!(read_record(1, &SEND[..33]), Step::More));
-    assert!(rt; matches!(read_record(1, END_2), Step::End { calls: 2, len: 10 }));
-    Ok(())
-}
-
-#[test]
-fn calls_that_no_record_has(rt: HostRuntime) {
-    let status = Some(Status3 {
-        source: 0,
-        tag: 0,
-        cancelled: false,
-    });
-    for (returned, status, fit) in [
-        (true, status, true),
-        (true, None, false),
-        (false, status, false),
-        (false, None, true),
-    ] {
-        let point = Point::Recv {
-            buf: 0,
-            count: 0,
-            dtype: 0,
-            source: 0,
-            tag: 0,
-            comm: 0,
-            status,
-        };
-        let body = Body::Point(point);
-        assert_eq!(rt; fits(&Call { returned, body }), fit);
-    }
-}
-
-#[test]
 fn calls_with_their_offsets(rt: HostRuntime) -> Result<(), Fail> {
     let alloc = rt.alloc();
     let mut bytes = Vec::new(alloc);
@@ -492,26 +176,14 @@ fn calls_with_their_offsets(rt: HostRuntime) -> Result<(), Fail> {
     let expect = Expect { rank: 0, size: 1 };
     let mut reader = StreamReader::new(alloc, expect).ok().ok_or("no memory")?;
     assert_eq!(rt; (reader.at(), reader.tag_ub()), (0, None));
-    let init = reader
-        .next(alloc, &mut src)
-        .ok()
-        .ok_or("a fault")?
-        .ok_or("no call")?;
+    let init = next_call(alloc, &mut reader, &mut src)?;
     assert!(rt; matches!(init.body, Body::Frame(Frame::Init)));
     assert_eq!(rt; (reader.at(), reader.tag_ub()), (17, Some(32_767)));
-    let send = reader
-        .next(alloc, &mut src)
-        .ok()
-        .ok_or("a fault")?
-        .ok_or("no call")?;
+    let send = next_call(alloc, &mut reader, &mut src)?;
     assert!(rt; is_send(&send));
     assert_eq!(rt; reader.at(), 23);
-    let recv = reader
-        .next(alloc, &mut src)
-        .ok()
-        .ok_or("a fault")?
-        .ok_or("no call")?;
-    assert_eq!(rt; recv.kind(), Kind::Recv);
+    let recv = next_call(alloc, &mut reader, &mut src)?;
+    assert_eq!(rt; recv.kind().number(), 7);
     let Body::Point(
         Point::Recv {
             source: -2,
@@ -541,6 +213,48 @@ fn calls_with_their_offsets(rt: HostRuntime) -> Result<(), Fail> {
         })
     );
     assert_eq!(rt; (reader.at(), reader.tag_ub()), (57, Some(32_767)));
+    Ok(())
+}
+
+/// The numbers of the kinds and the offsets of the records.
+const KINDS_AT: [(u8, u64); 8] = [
+    (1, 17),
+    (11, 23),
+    (17, 61),
+    (49, 97),
+    (33, 127),
+    (23, 173),
+    (62, 225),
+    (2, 268),
+];
+
+#[test]
+fn calls_of_each_family(rt: HostRuntime) -> Result<(), Fail> {
+    let alloc = rt.alloc();
+    let mut bytes = Vec::new(alloc);
+    for part in [
+        HEADER,
+        INIT,
+        ISEND,
+        WAITALL,
+        COMM_SPLIT,
+        TYPE_STRUCT,
+        TESTSOME,
+        REDUCE,
+        FINALIZE,
+        END_8,
+    ] {
+        bytes.extend_from_slice(part)?;
+    }
+    let mut src = MemSource::new(bytes, 7, Vec::new(alloc));
+    let expect = Expect { rank: 0, size: 1 };
+    let mut reader = StreamReader::new(alloc, expect).ok().ok_or("no memory")?;
+    for (kind, at) in KINDS_AT {
+        let call = next_call(alloc, &mut reader, &mut src)?;
+        assert!(rt; call.returned);
+        assert_eq!(rt; (call.kind().number(), reader.at()), (kind, at));
+    }
+    assert!(rt; matches!(reader.next(alloc, &mut src), Ok(None)));
     Ok(())
 }
 

@@ -1,6 +1,5 @@
 use Rattle.std.proofs.Common.{◌++◌}
 use Rattle.std.specs.Prelude.{codes}
-use Rattle.std.specs.Fmt.{decimal}
 use Rattle.must_cli.proofs.Pieces.{put_then, put_cut}
 use Rattle.must_cli.proofs.line.put_name.Goals as goal
 

@@ -1,7 +1,0 @@
-use Rattle.std.proofs.Common.{◌≡◌, ◌++◌, take}
-use Rattle.std.specs.List.{flat_map}
-use Rattle.must_format.specs.Values.{cell_text}
-use Rattle.must_codec.proofs.writing.put_cells.Given as goal
-
-abbrev pub invariant-loop-cell : goal.invariant-loop-cell
-invariant-loop-cell l = l.out.items ≡ l.fn.out.items ++ flat_map cell_text (take l.cell-index l.cells)
