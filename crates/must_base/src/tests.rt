@@ -1,4 +1,4 @@
-//! Sources, sinks and traces over memory and over real files.
+//! Sources, sinks and traces over memory, and a trace of real files.
 
 use super::*;
 use std::alloc::Global;
@@ -6,7 +6,7 @@ use std::process::Abort;
 use std::test::Fail;
 
 /// Reads once into four bytes, and compares what came; none stands for a failure.
-fn reads<S: Source>(rt: &impl Abort, source: &mut S, want: Option<&[u8]>) {
+pub(crate) fn reads<S: Source>(rt: &impl Abort, source: &mut S, want: Option<&[u8]>) {
     let mut buf = [0; 4];
     match (source.read(&mut buf), want) {
         (Ok(count), Some(bytes)) => assert_eq!(rt; &buf[..count], bytes),
@@ -49,7 +49,7 @@ fn sinks_in_memory(rt: HostRuntime) -> Result<(), Fail> {
     Ok(())
 }
 
-fn name(alloc: Global, text: &str) -> Result<NameText, Fail> {
+fn named(alloc: Global, text: &str) -> Result<NameText, Fail> {
     Ok(NameText::new(alloc, text)?)
 }
 
@@ -58,15 +58,15 @@ fn traces_in_memory(rt: HostRuntime) -> Result<(), Fail> {
     let alloc = rt.alloc();
     let mut files = Vec::new(alloc);
     files.push(MemFile {
-        name: name(alloc, "a")?,
+        name: named(alloc, "a")?,
         bytes: b"xy".to_vec(alloc)?,
         chunk: 1,
         fail: Vec::new(alloc),
     })?;
     let mut trace = MemTrace::new(alloc, files);
     let mut names = Vec::new(alloc);
-    names.push(name(alloc, "b")?)?;
-    names.push(name(alloc, "a")?)?;
+    names.push(named(alloc, "b")?)?;
+    names.push(named(alloc, "a")?)?;
     trace.bind(alloc, &names)?;
     let parts = trace.parts();
     assert_eq!(rt; parts.len(), 2);
@@ -83,23 +83,26 @@ fn traces_in_memory(rt: HostRuntime) -> Result<(), Fail> {
 }
 
 #[test]
-fn real_files(rt: HostRuntime) -> Result<(), Fail> {
+fn a_trace_of_real_files(rt: HostRuntime) -> Result<(), Fail> {
     let alloc = rt.alloc();
-    let mut sink = StreamSink::new(std::fs::create(&rt, "real.bin")?);
-    assert_eq!(rt; sink.put(b"abc"), Ok(()));
-    assert_eq!(rt; sink.put(b"de"), Ok(()));
+    std::fs::write(&rt, "must_base_trace.bin", b"abcdefg")?;
     let mut names = Vec::new(alloc);
-    names.push(name(alloc, "real.bin")?)?;
-    names.push(name(alloc, "absent.bin")?)?;
+    names.push(named(alloc, "must_base_trace.bin")?)?;
+    names.push(named(alloc, "must_base_trace.bin")?)?;
     let mut trace = FileTrace::new(alloc, rt.clone()?);
     trace.bind(alloc, &names)?;
     let parts = trace.parts();
     assert_eq!(rt; parts.len(), 2);
+    // The parts read the same file, each for itself.
     reads(&rt, &mut parts[0], Some(b"abcd"));
-    reads(&rt, &mut parts[1], None);
-    reads(&rt, &mut parts[0], Some(b"e"));
-    reads(&rt, &mut parts[0], Some(b""));
-    reads(&rt, &mut parts[0], Some(b""));
-    reads(&rt, &mut parts[1], None);
+    reads(&rt, &mut parts[1], Some(b"abcd"));
+    reads(&rt, &mut parts[1], Some(b"efg"));
+    reads(&rt, &mut parts[0], Some(b"efg"));
+    std::fs::remove_file(&rt, "must_base_trace.bin")?;
     Ok(())
+}
+
+#[test]
+fn an_open_gate(rt: HostRuntime) {
+    OpenGate.at_batch(&rt, 0, 1, 2);
 }
