@@ -1,11 +1,15 @@
 pub mod Basics
-pub mod Kinds
-pub mod Names
+pub mod BasicLaws
+pub mod Roles
 pub mod Fields
+pub mod Names
 pub mod Values
 pub mod Bodies
+pub mod Kinds
 pub mod Arguments
 pub mod BodyLaws
+pub mod KindLaws
 pub mod Reading
 pub mod Numbers
 pub mod Handles
+pub mod Made

@@ -1,8 +1,8 @@
 -- The values of fields.
 use Rattle.std.specs.Prelude.{ℕ, ℤ, Bool, List, [], ◌∷◌, Option, Some, None}
 use Rattle.must_call.specs.declared.status.Status3.{Status3}
-use Rattle.must_call.specs.declared.items.Block.{Block}
-use Rattle.must_call.specs.declared.items.ByteBlock.{ByteBlock}
+use Rattle.must_call.specs.declared.items.IndexItem.{IndexItem}
+use Rattle.must_call.specs.declared.items.HindexItem.{HindexItem}
 use Rattle.must_call.specs.declared.items.StructBlock.{StructBlock}
 use Rattle.must_call.specs.declared.items.Dim.{Dim}
 use Rattle.must_call.specs.declared.items.Amount.{Amount}
@@ -19,21 +19,21 @@ use Rattle.must_call.specs.declared.field.Output.TheVariants as output
 -- an item of a list
 abbrev pub ItemValue : Item → Type 0
 ItemValue item.Request = ℕ
-ItemValue item.Int = ℤ
+ItemValue (item.Int u) = ℤ
 ItemValue item.Aint = ℤ
-ItemValue item.Block = Block
-ItemValue item.ByteBlock = ByteBlock
+ItemValue item.Block = IndexItem
+ItemValue item.ByteBlock = HindexItem
 ItemValue item.StructBlock = StructBlock
 ItemValue item.Dim = Dim
-ItemValue item.Amount = Amount
+ItemValue (item.Amount s) = Amount
 
 -- a field
 abbrev pub Value : Field → Type 0
-Value (field.Handle c) = ℕ
-Value field.U64 = ℕ
-Value field.I32 = ℤ
-Value field.I64 = ℤ
-Value field.Bit = Bool
+Value (field.Handle h) = ℕ
+Value (field.Buffer s) = ℕ
+Value (field.I32 u) = ℤ
+Value (field.I64 u) = ℤ
+Value (field.Bit u) = Bool
 Value field.Order = ℕ
 Value (field.Items i) = List (ItemValue i)
 

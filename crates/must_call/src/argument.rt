@@ -7,9 +7,10 @@ ghost use Rattle.must_call.specs.Values.{given};
 ghost use Rattle.must_call.specs.Arguments.{output_seen};
 
 use crate::class::Class;
+use crate::field::{Aint, Flag, Handle, Int, Ints, Side};
 use crate::items::{Choice, MadeComm};
 use crate::lists::{
-    AintList, AmountList, BlockList, ByteBlockList, CompletionList, DimList, HandleList, IntList,
+    AmountList, CompletionList, DimList, HandleList, HdispList, HindexList, IndexList, IntList,
     StatusList, StructBlockList,
 };
 use crate::status::Status3;
@@ -18,40 +19,34 @@ use arrayvec::ArrayVec;
 /// A field that stands in each record of a kind, with its value.
 #[derive(Clone, Copy, Drop)]
 pub enum Argument<'a> {
-    /// A handle, and what it stands for.
-    Handle(Class, u32),
+    Handle(Handle, u32),
     /// The address of a buffer.
-    U64(u64),
-    /// A count, rank, tag, root, color or key.
-    I32(i32),
-    /// A displacement or an extent in bytes.
-    I64(i64),
-    /// A truth value.
-    Bit(bool),
+    Buffer(Side, u64),
+    I32(Int, i32),
+    I64(Aint, i64),
+    Bit(Flag, bool),
     /// The order of an array: 0 as in C, 1 as in Fortran.
     Order(u8),
     Requests(&'a HandleList),
-    /// Ranks, counts, or displacements in extents of a type.
-    Ints(&'a IntList),
+    Ints(Ints, &'a IntList),
     /// Displacements in bytes.
-    Aints(&'a AintList),
-    Blocks(&'a BlockList),
-    ByteBlocks(&'a ByteBlockList),
+    Aints(&'a HdispList),
+    Blocks(&'a IndexList),
+    ByteBlocks(&'a HindexList),
     StructBlocks(&'a StructBlockList),
     Dims(&'a DimList),
     /// What goes to or comes from each member.
-    Amounts(&'a AmountList),
+    Amounts(Side, &'a AmountList),
 }
 
 /// A field that isn't there: what stands in the free places of `Arguments`.
 impl Default for Argument<'_> {
     ghost use Rattle.must_call.specs.declared.argument.Argument.TheVariants as argument;
-    ghost use Rattle.std.specs.Prelude.{false};
 
-    ghost is_default = { λ p. p ≡ argument.Bit false };
+    ghost is_default = { λ p. p ≡ argument.Order 0 };
 
     fn default() -> Self {
-        Argument::Bit(false)
+        Argument::Order(0)
     }
 }
 

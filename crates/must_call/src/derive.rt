@@ -9,8 +9,9 @@ ghost use Rattle.must_call.specs.Arguments.{all_seen, output_seen};
 
 use crate::argument::{Argument, Arguments, Given, given_made, listed};
 use crate::class::Class;
+use crate::field::{Aint, Handle, Int, Ints};
 use crate::kind::Kind;
-use crate::lists::{AintList, BlockList, ByteBlockList, DimList, IntList, StructBlockList};
+use crate::lists::{DimList, DispList, HdispList, HindexList, IndexList, StructBlockList};
 
 /// A call on datatypes. Displacements of type `i32` count extents of the old type, those of type `i64` bytes.
 #[derive(Drop)]
@@ -39,27 +40,27 @@ pub enum Derive {
     },
     /// `MPI_Type_indexed`.
     TypeIndexed {
-        blocks: BlockList,
+        blocks: IndexList,
         old: u32,
         made: Option<u32>,
     },
     /// `MPI_Type_create_hindexed`.
     TypeHindexed {
-        blocks: ByteBlockList,
+        blocks: HindexList,
         old: u32,
         made: Option<u32>,
     },
     /// `MPI_Type_create_indexed_block`.
     TypeIndexedBlock {
         block: i32,
-        disps: IntList,
+        disps: DispList,
         old: u32,
         made: Option<u32>,
     },
     /// `MPI_Type_create_hindexed_block`.
     TypeHindexedBlock {
         block: i32,
-        disps: AintList,
+        disps: HdispList,
         old: u32,
         made: Option<u32>,
     },
@@ -125,8 +126,8 @@ impl Derive {
     {
         match self {
             Derive::TypeContiguous { count, old, .. } => listed(&[
-                Argument::I32(*count),
-                Argument::Handle(Class::Datatype, *old),
+                Argument::I32(Int::Copies, *count),
+                Argument::Handle(Handle::Old, *old),
             ]),
             Derive::TypeVector {
                 count,
@@ -135,10 +136,10 @@ impl Derive {
                 old,
                 ..
             } => listed(&[
-                Argument::I32(*count),
-                Argument::I32(*block),
-                Argument::I32(*stride),
-                Argument::Handle(Class::Datatype, *old),
+                Argument::I32(Int::Copies, *count),
+                Argument::I32(Int::Block, *block),
+                Argument::I32(Int::Stride, *stride),
+                Argument::Handle(Handle::Old, *old),
             ]),
             Derive::TypeHvector {
                 count,
@@ -147,18 +148,18 @@ impl Derive {
                 old,
                 ..
             } => listed(&[
-                Argument::I32(*count),
-                Argument::I32(*block),
-                Argument::I64(*stride),
-                Argument::Handle(Class::Datatype, *old),
+                Argument::I32(Int::Copies, *count),
+                Argument::I32(Int::Block, *block),
+                Argument::I64(Aint::Stride, *stride),
+                Argument::Handle(Handle::Old, *old),
             ]),
             Derive::TypeIndexed { blocks, old, .. } => listed(&[
                 Argument::Blocks(blocks),
-                Argument::Handle(Class::Datatype, *old),
+                Argument::Handle(Handle::Old, *old),
             ]),
             Derive::TypeHindexed { blocks, old, .. } => listed(&[
                 Argument::ByteBlocks(blocks),
-                Argument::Handle(Class::Datatype, *old),
+                Argument::Handle(Handle::Old, *old),
             ]),
             Derive::TypeIndexedBlock {
                 block,
@@ -166,9 +167,9 @@ impl Derive {
                 old,
                 ..
             } => listed(&[
-                Argument::I32(*block),
-                Argument::Ints(disps),
-                Argument::Handle(Class::Datatype, *old),
+                Argument::I32(Int::Block, *block),
+                Argument::Ints(Ints::Displacements, disps),
+                Argument::Handle(Handle::Old, *old),
             ]),
             Derive::TypeHindexedBlock {
                 block,
@@ -176,21 +177,21 @@ impl Derive {
                 old,
                 ..
             } => listed(&[
-                Argument::I32(*block),
+                Argument::I32(Int::Block, *block),
                 Argument::Aints(disps),
-                Argument::Handle(Class::Datatype, *old),
+                Argument::Handle(Handle::Old, *old),
             ]),
             Derive::TypeStruct { blocks, .. } => listed(&[Argument::StructBlocks(blocks)]),
-            Derive::TypeDup { old, .. } => listed(&[Argument::Handle(Class::Datatype, *old)]),
+            Derive::TypeDup { old, .. } => listed(&[Argument::Handle(Handle::Old, *old)]),
             Derive::TypeResized {
                 lb,
                 extent,
                 old,
                 ..
             } => listed(&[
-                Argument::I64(*lb),
-                Argument::I64(*extent),
-                Argument::Handle(Class::Datatype, *old),
+                Argument::I64(Aint::LowerBound, *lb),
+                Argument::I64(Aint::Extent, *extent),
+                Argument::Handle(Handle::Old, *old),
             ]),
             Derive::TypeSubarray {
                 order,
@@ -200,10 +201,10 @@ impl Derive {
             } => listed(&[
                 Argument::Order(*order),
                 Argument::Dims(dims),
-                Argument::Handle(Class::Datatype, *old),
+                Argument::Handle(Handle::Old, *old),
             ]),
             Derive::TypeCommit { dtype } | Derive::TypeFree { dtype } => listed(&[Argument::Handle(
-                Class::Datatype,
+                Handle::Subject,
                 *dtype,
             )]),
         }

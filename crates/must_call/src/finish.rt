@@ -11,7 +11,7 @@ use crate::argument::{
     Argument, Arguments, Given, given_choice, given_completions, given_maybe_choice,
     given_maybe_status, given_maybe_statuses, given_status, given_statuses, listed,
 };
-use crate::class::Class;
+use crate::field::Handle;
 use crate::items::Choice;
 use crate::kind::Kind;
 use crate::lists::{CompletionList, HandleList, StatusList};
@@ -97,7 +97,7 @@ impl Finish {
             Finish::Wait { request, .. }
             | Finish::Test { request, .. }
             | Finish::RequestFree { request }
-            | Finish::Cancel { request } => listed(&[Argument::Handle(Class::Request, *request)]),
+            | Finish::Cancel { request } => listed(&[Argument::Handle(Handle::Request, *request)]),
             Finish::Waitall { requests, .. }
             | Finish::Waitany { requests, .. }
             | Finish::Waitsome { requests, .. }

@@ -16,6 +16,7 @@ mod body;
 mod call;
 mod class;
 mod collective;
+mod constants;
 mod derive;
 mod field;
 mod finish;
@@ -23,12 +24,15 @@ mod frame;
 mod handle;
 mod items;
 mod kind;
+mod life;
 mod lists;
 mod number;
 mod object;
+mod persist;
 mod place;
 mod point;
 mod row;
+mod started;
 mod status;
 #[cfg(test)]
 mod tests;
@@ -39,17 +43,24 @@ pub use body::Body;
 pub use call::Call;
 pub use class::Class;
 pub use collective::Collective;
+pub use constants::{
+    ANY_SOURCE, ANY_TAG, COMM_SELF, COMM_WORLD, FIRST_MADE, GROUP_EMPTY, NULL_HANDLE, PROC_NULL,
+    UNDEFINED,
+};
 pub use derive::Derive;
-pub use field::{Field, Item, Output};
+pub use field::{Aint, Field, Flag, Handle, Int, Ints, Item, Output, Side};
 pub use finish::Finish;
 pub use frame::Frame;
-pub use items::{Amount, Block, ByteBlock, Choice, Completion, Dim, MadeComm, StructBlock};
+pub use items::{Amount, Choice, Completion, Dim, HindexItem, IndexItem, MadeComm, StructBlock};
 pub use kind::Kind;
+pub use life::Life;
 pub use lists::{
-    AintList, AmountList, BlockList, ByteBlockList, CompletionList, DimList, HandleList, IntList,
-    MemberList, StatusList, StructBlockList,
+    AmountList, CompletionList, DimList, DispList, HandleList, HdispList, HindexList, IndexList,
+    IntList, Items, MemberList, StatusList, StructBlockList,
 };
 pub use object::Object;
+pub use persist::Persist;
 pub use place::Place;
 pub use point::Point;
+pub use started::Started;
 pub use status::Status3;

@@ -2,431 +2,80 @@
 
 ghost use Rattle.std.specs.Prelude.{◌≡◌};
 
-use crate::items::{Amount, Block, ByteBlock, Completion, Dim, StructBlock};
+use crate::items::{Amount, Completion, Dim, HindexItem, IndexItem, StructBlock};
 use crate::status::Status3;
 use std::marker::Model;
 
-/// Handles of requests.
+/// A list. Its items are taken over from a vector and given back as one, so that no list is copied.
 #[derive(Drop)]
-pub struct HandleList {
-    items: Vec<u32>,
+pub struct Items<T> {
+    items: Vec<T>,
 }
 
-impl Model for HandleList {
-    ghost use Rattle.std.specs.Prelude.{List, ℕ};
+impl<T> Model for Items<T> {
+    ghost use Rattle.std.specs.Prelude.{List};
 
-    ghost Value = { List ℕ };
+    ghost Value = { List T };
 
     ghost view = { λ l. l.items.items };
 }
 
-impl HandleList {
+impl<T> Items<T> {
     /// The list of these items. It takes no memory.
-    pub fn from_vec(items: Vec<u32>) -> Self
+    pub fn from_vec(items: Vec<T>) -> Self
         ensures { result ≡ items.items }
     {
-        HandleList { items }
+        Items { items }
     }
 
     /// The items.
-    pub fn items(&self) -> &[u32]
+    pub fn items(&self) -> &[T]
         ensures { result.now ≡ self.now }
     {
         &self.items
     }
 
     /// Gives the items back. It takes no memory.
-    pub fn into_vec(self) -> Vec<u32>
+    pub fn into_vec(self) -> Vec<T>
         ensures { result.items ≡ self }
     {
-        let HandleList { items } = self;
+        let Items { items } = self;
         items
     }
 }
+
+/// Handles of requests.
+pub type HandleList = Items<u32>;
 
 /// World ranks of the members of a communicator.
-#[derive(Drop)]
-pub struct MemberList {
-    items: Vec<u32>,
-}
+pub type MemberList = Items<u32>;
 
-impl Model for MemberList {
-    ghost use Rattle.std.specs.Prelude.{List, ℕ};
+/// Ranks of a group, or counts by member.
+pub type IntList = Items<i32>;
 
-    ghost Value = { List ℕ };
+/// The displacements of `MPI_Type_create_indexed_block`, in extents of the old type.
+pub type DispList = Items<i32>;
 
-    ghost view = { λ l. l.items.items };
-}
+/// The displacements of `MPI_Type_create_hindexed_block`, in bytes.
+pub type HdispList = Items<i64>;
 
-impl MemberList {
-    /// The list of these items. It takes no memory.
-    pub fn from_vec(items: Vec<u32>) -> Self
-        ensures { result ≡ items.items }
-    {
-        MemberList { items }
-    }
+/// The blocks of `MPI_Type_indexed`.
+pub type IndexList = Items<IndexItem>;
 
-    /// The items.
-    pub fn items(&self) -> &[u32]
-        ensures { result.now ≡ self.now }
-    {
-        &self.items
-    }
+/// The blocks of `MPI_Type_create_hindexed`.
+pub type HindexList = Items<HindexItem>;
 
-    /// Gives the items back. It takes no memory.
-    pub fn into_vec(self) -> Vec<u32>
-        ensures { result.items ≡ self }
-    {
-        let MemberList { items } = self;
-        items
-    }
-}
+/// The blocks of `MPI_Type_create_struct`.
+pub type StructBlockList = Items<StructBlock>;
 
-/// Ranks of a group, counts, or displacements in extents of a type.
-#[derive(Drop)]
-pub struct IntList {
-    items: Vec<i32>,
-}
+/// The dimensions of `MPI_Type_create_subarray`.
+pub type DimList = Items<Dim>;
 
-impl Model for IntList {
-    ghost use Rattle.std.specs.Prelude.{List, ℤ};
+/// What goes to or comes from each member.
+pub type AmountList = Items<Amount>;
 
-    ghost Value = { List ℤ };
+/// A status for each request.
+pub type StatusList = Items<Status3>;
 
-    ghost view = { λ l. l.items.items };
-}
-
-impl IntList {
-    /// The list of these items. It takes no memory.
-    pub fn from_vec(items: Vec<i32>) -> Self
-        ensures { result ≡ items.items }
-    {
-        IntList { items }
-    }
-
-    /// The items.
-    pub fn items(&self) -> &[i32]
-        ensures { result.now ≡ self.now }
-    {
-        &self.items
-    }
-
-    /// Gives the items back. It takes no memory.
-    pub fn into_vec(self) -> Vec<i32>
-        ensures { result.items ≡ self }
-    {
-        let IntList { items } = self;
-        items
-    }
-}
-
-/// Displacements in bytes.
-#[derive(Drop)]
-pub struct AintList {
-    items: Vec<i64>,
-}
-
-impl Model for AintList {
-    ghost use Rattle.std.specs.Prelude.{List, ℤ};
-
-    ghost Value = { List ℤ };
-
-    ghost view = { λ l. l.items.items };
-}
-
-impl AintList {
-    /// The list of these items. It takes no memory.
-    pub fn from_vec(items: Vec<i64>) -> Self
-        ensures { result ≡ items.items }
-    {
-        AintList { items }
-    }
-
-    /// The items.
-    pub fn items(&self) -> &[i64]
-        ensures { result.now ≡ self.now }
-    {
-        &self.items
-    }
-
-    /// Gives the items back. It takes no memory.
-    pub fn into_vec(self) -> Vec<i64>
-        ensures { result.items ≡ self }
-    {
-        let AintList { items } = self;
-        items
-    }
-}
-
-/// Blocks of `MPI_Type_indexed`.
-#[derive(Drop)]
-pub struct BlockList {
-    items: Vec<Block>,
-}
-
-impl Model for BlockList {
-    ghost use Rattle.std.specs.Prelude.{List};
-    ghost use Rattle.must_call.specs.declared.items.Block.{Block};
-
-    ghost Value = { List Block };
-
-    ghost view = { λ l. l.items.items };
-}
-
-impl BlockList {
-    /// The list of these items. It takes no memory.
-    pub fn from_vec(items: Vec<Block>) -> Self
-        ensures { result ≡ items.items }
-    {
-        BlockList { items }
-    }
-
-    /// The items.
-    pub fn items(&self) -> &[Block]
-        ensures { result.now ≡ self.now }
-    {
-        &self.items
-    }
-
-    /// Gives the items back. It takes no memory.
-    pub fn into_vec(self) -> Vec<Block>
-        ensures { result.items ≡ self }
-    {
-        let BlockList { items } = self;
-        items
-    }
-}
-
-/// Blocks of `MPI_Type_create_hindexed`.
-#[derive(Drop)]
-pub struct ByteBlockList {
-    items: Vec<ByteBlock>,
-}
-
-impl Model for ByteBlockList {
-    ghost use Rattle.std.specs.Prelude.{List};
-    ghost use Rattle.must_call.specs.declared.items.ByteBlock.{ByteBlock};
-
-    ghost Value = { List ByteBlock };
-
-    ghost view = { λ l. l.items.items };
-}
-
-impl ByteBlockList {
-    /// The list of these items. It takes no memory.
-    pub fn from_vec(items: Vec<ByteBlock>) -> Self
-        ensures { result ≡ items.items }
-    {
-        ByteBlockList { items }
-    }
-
-    /// The items.
-    pub fn items(&self) -> &[ByteBlock]
-        ensures { result.now ≡ self.now }
-    {
-        &self.items
-    }
-
-    /// Gives the items back. It takes no memory.
-    pub fn into_vec(self) -> Vec<ByteBlock>
-        ensures { result.items ≡ self }
-    {
-        let ByteBlockList { items } = self;
-        items
-    }
-}
-
-/// Blocks of `MPI_Type_create_struct`.
-#[derive(Drop)]
-pub struct StructBlockList {
-    items: Vec<StructBlock>,
-}
-
-impl Model for StructBlockList {
-    ghost use Rattle.std.specs.Prelude.{List};
-    ghost use Rattle.must_call.specs.declared.items.StructBlock.{StructBlock};
-
-    ghost Value = { List StructBlock };
-
-    ghost view = { λ l. l.items.items };
-}
-
-impl StructBlockList {
-    /// The list of these items. It takes no memory.
-    pub fn from_vec(items: Vec<StructBlock>) -> Self
-        ensures { result ≡ items.items }
-    {
-        StructBlockList { items }
-    }
-
-    /// The items.
-    pub fn items(&self) -> &[StructBlock]
-        ensures { result.now ≡ self.now }
-    {
-        &self.items
-    }
-
-    /// Gives the items back. It takes no memory.
-    pub fn into_vec(self) -> Vec<StructBlock>
-        ensures { result.items ≡ self }
-    {
-        let StructBlockList { items } = self;
-        items
-    }
-}
-
-/// Dimensions of `MPI_Type_create_subarray`.
-#[derive(Drop)]
-pub struct DimList {
-    items: Vec<Dim>,
-}
-
-impl Model for DimList {
-    ghost use Rattle.std.specs.Prelude.{List};
-    ghost use Rattle.must_call.specs.declared.items.Dim.{Dim};
-
-    ghost Value = { List Dim };
-
-    ghost view = { λ l. l.items.items };
-}
-
-impl DimList {
-    /// The list of these items. It takes no memory.
-    pub fn from_vec(items: Vec<Dim>) -> Self
-        ensures { result ≡ items.items }
-    {
-        DimList { items }
-    }
-
-    /// The items.
-    pub fn items(&self) -> &[Dim]
-        ensures { result.now ≡ self.now }
-    {
-        &self.items
-    }
-
-    /// Gives the items back. It takes no memory.
-    pub fn into_vec(self) -> Vec<Dim>
-        ensures { result.items ≡ self }
-    {
-        let DimList { items } = self;
-        items
-    }
-}
-
-/// What a collective call sends to or receives from each member.
-#[derive(Drop)]
-pub struct AmountList {
-    items: Vec<Amount>,
-}
-
-impl Model for AmountList {
-    ghost use Rattle.std.specs.Prelude.{List};
-    ghost use Rattle.must_call.specs.declared.items.Amount.{Amount};
-
-    ghost Value = { List Amount };
-
-    ghost view = { λ l. l.items.items };
-}
-
-impl AmountList {
-    /// The list of these items. It takes no memory.
-    pub fn from_vec(items: Vec<Amount>) -> Self
-        ensures { result ≡ items.items }
-    {
-        AmountList { items }
-    }
-
-    /// The items.
-    pub fn items(&self) -> &[Amount]
-        ensures { result.now ≡ self.now }
-    {
-        &self.items
-    }
-
-    /// Gives the items back. It takes no memory.
-    pub fn into_vec(self) -> Vec<Amount>
-        ensures { result.items ≡ self }
-    {
-        let AmountList { items } = self;
-        items
-    }
-}
-
-/// Statuses, one for each request of a list.
-#[derive(Drop)]
-pub struct StatusList {
-    items: Vec<Status3>,
-}
-
-impl Model for StatusList {
-    ghost use Rattle.std.specs.Prelude.{List};
-    ghost use Rattle.must_call.specs.declared.status.Status3.{Status3};
-
-    ghost Value = { List Status3 };
-
-    ghost view = { λ l. l.items.items };
-}
-
-impl StatusList {
-    /// The list of these items. It takes no memory.
-    pub fn from_vec(items: Vec<Status3>) -> Self
-        ensures { result ≡ items.items }
-    {
-        StatusList { items }
-    }
-
-    /// The items.
-    pub fn items(&self) -> &[Status3]
-        ensures { result.now ≡ self.now }
-    {
-        &self.items
-    }
-
-    /// Gives the items back. It takes no memory.
-    pub fn into_vec(self) -> Vec<Status3>
-        ensures { result.items ≡ self }
-    {
-        let StatusList { items } = self;
-        items
-    }
-}
-
-/// The requests of a list that were completed, by rising index.
-#[derive(Drop)]
-pub struct CompletionList {
-    items: Vec<Completion>,
-}
-
-impl Model for CompletionList {
-    ghost use Rattle.std.specs.Prelude.{List};
-    ghost use Rattle.must_call.specs.declared.items.Completion.{Completion};
-
-    ghost Value = { List Completion };
-
-    ghost view = { λ l. l.items.items };
-}
-
-impl CompletionList {
-    /// The list of these items. It takes no memory.
-    pub fn from_vec(items: Vec<Completion>) -> Self
-        ensures { result ≡ items.items }
-    {
-        CompletionList { items }
-    }
-
-    /// The items.
-    pub fn items(&self) -> &[Completion]
-        ensures { result.now ≡ self.now }
-    {
-        &self.items
-    }
-
-    /// Gives the items back. It takes no memory.
-    pub fn into_vec(self) -> Vec<Completion>
-        ensures { result.items ≡ self }
-    {
-        let CompletionList { items } = self;
-        items
-    }
-}
+/// The requests that were completed.
+pub type CompletionList = Items<Completion>;

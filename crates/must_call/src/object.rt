@@ -9,6 +9,7 @@ ghost use Rattle.must_call.specs.Arguments.{all_seen, output_seen};
 
 use crate::argument::{Argument, Arguments, Given, given_comm, given_made, listed};
 use crate::class::Class;
+use crate::field::{Flag, Handle, Int, Ints};
 use crate::items::MadeComm;
 use crate::kind::Kind;
 use crate::lists::IntList;
@@ -115,36 +116,36 @@ impl Object {
         ensures { all_seen result.items ≡ inputs_of (body.Object self.now) }
     {
         match self {
-            Object::OpCreate { commute, .. } => listed(&[Argument::Bit(*commute)]),
-            Object::OpFree { op } => listed(&[Argument::Handle(Class::Operation, *op)]),
+            Object::OpCreate { commute, .. } => listed(&[Argument::Bit(Flag::Commute, *commute)]),
+            Object::OpFree { op } => listed(&[Argument::Handle(Handle::Operation, *op)]),
             Object::CommGroup { comm, .. }
             | Object::CommDup { comm, .. }
-            | Object::CommFree { comm } => listed(&[Argument::Handle(Class::Comm, *comm)]),
+            | Object::CommFree { comm } => listed(&[Argument::Handle(Handle::Comm, *comm)]),
             Object::GroupIncl { group, ranks, .. } | Object::GroupExcl { group, ranks, .. } =>
                 listed(&[
-                    Argument::Handle(Class::Group, *group),
-                    Argument::Ints(ranks),
+                    Argument::Handle(Handle::Group, *group),
+                    Argument::Ints(Ints::Ranks, ranks),
                 ]),
             Object::GroupUnion { first, second, .. }
             | Object::GroupIntersection { first, second, .. }
             | Object::GroupDifference { first, second, .. } => listed(&[
-                Argument::Handle(Class::Group, *first),
-                Argument::Handle(Class::Group, *second),
+                Argument::Handle(Handle::Group, *first),
+                Argument::Handle(Handle::Group, *second),
             ]),
-            Object::GroupFree { group } => listed(&[Argument::Handle(Class::Group, *group)]),
+            Object::GroupFree { group } => listed(&[Argument::Handle(Handle::Group, *group)]),
             Object::CommSplit {
                 comm,
                 color,
                 key,
                 ..
             } => listed(&[
-                Argument::Handle(Class::Comm, *comm),
-                Argument::I32(*color),
-                Argument::I32(*key),
+                Argument::Handle(Handle::Comm, *comm),
+                Argument::I32(Int::Color, *color),
+                Argument::I32(Int::Key, *key),
             ]),
             Object::CommCreate { comm, group, .. } => listed(&[
-                Argument::Handle(Class::Comm, *comm),
-                Argument::Handle(Class::Group, *group),
+                Argument::Handle(Handle::Comm, *comm),
+                Argument::Handle(Handle::Group, *group),
             ]),
         }
     }

@@ -4,10 +4,12 @@ ghost use Rattle.std.specs.Prelude.{◌≡◌, ℕ, ◌<◌, ℤ, pos, List, [],
 ghost use Rattle.std.specs.List.{flat_map};
 ghost use Rattle.std.proofs.Common.{rules};
 ghost use Rattle.must_call.specs.declared.field.Item.TheVariants as item;
+ghost use Rattle.must_call.specs.declared.field.Ints.TheVariants as ints;
+ghost use Rattle.must_call.specs.declared.field.Side.TheVariants as side;
 ghost use Rattle.must_call.specs.Reading.{Reads};
 ghost use Rattle.must_call.specs.Numbers.{item_numbers, counted, status_numbers, completion_numbers};
 
-use crate::items::{Amount, Block, ByteBlock, Completion, Dim, StructBlock};
+use crate::items::{Amount, Completion, Dim, HindexItem, IndexItem, StructBlock};
 use crate::status::Status3;
 
 /// An item of a list, as `WIDTH` numbers of a payload.
@@ -46,7 +48,7 @@ impl Row for u32 {
 impl Row for i32 {
     ghost WIDTH = { 1 };
 
-    ghost numbers = { item_numbers item.Int };
+    ghost numbers = { item_numbers (item.Int ints.Ranks) };
 
     const WIDTH: usize = 1;
 
@@ -75,7 +77,7 @@ impl Row for i64 {
     ghost wide = { λ row. refl };
 }
 
-impl Row for Block {
+impl Row for IndexItem {
     ghost WIDTH = { 2 };
 
     ghost numbers = { item_numbers item.Block };
@@ -91,7 +93,7 @@ impl Row for Block {
     ghost wide = { λ row. refl };
 }
 
-impl Row for ByteBlock {
+impl Row for HindexItem {
     ghost WIDTH = { 2 };
 
     ghost numbers = { item_numbers item.ByteBlock };
@@ -156,7 +158,7 @@ impl Row for Dim {
 impl Row for Amount {
     ghost WIDTH = { 2 };
 
-    ghost numbers = { item_numbers item.Amount };
+    ghost numbers = { item_numbers (item.Amount side.Both) };
 
     const WIDTH: usize = 2;
 
