@@ -1,14 +1,11 @@
 -- A whole record at the front of some bytes spells its call.
-use Rattle.std.proofs.Common.{◌≡◌, ℕ, suc, ◌+◌, ◌-◌, ◌<◌, ◌≤◌, ◌⊎◌, inl, inr, Bool, true, false, cond, ltb, eqb, List, [], ◌∷◌, ◌++◌, length, take, drop, map, get_or, Option, Some, None, Result, Ok, Err, refl, sym, ap, subst, ◌∙◌, append_assoc, arith}
+use Rattle.std.proofs.Common.{◌≡◌, ℕ, suc, ◌≤◌, ◌⊎◌, inl, inr, Bool, true, false, cond, ltb, eqb, List, [], ◌∷◌, ◌++◌, length, take, drop, Option, Some, None, Result, Ok, Err, refl, sym, ap, subst, ◌∙◌, append_assoc}
 use Rattle.std.specs.Int.{w32, from_be_bytes}
-use Rattle.std.specs.List.{slice_get, range_with_len}
-use Rattle.std.specs.Option.{option_map}
-use Rattle.std.proofs.lemmas.Bool.{ltb-false, eqb-true, eqb-false}
+use Rattle.std.proofs.lemmas.Bool.{ltb-false, eqb-true}
 use Rattle.std.proofs.lemmas.List.{take-append-drop, length-take-le}
-use Rattle.std.proofs.lemmas.List.FromFn.{get_or-range_with_len}
-use Rattle.std.proofs.lemmas.Option.{slice_get-map, slice_get_within, get_or_from_slice_get}
 use Rattle.must_call.specs.declared.kind.Kind.{Kind}
-use Rattle.must_call.specs.Kinds.{number_of, kinds, first_kind_at, kind_at}
+use Rattle.must_call.specs.Kinds.{number_of, kind_at}
+use Rattle.must_call.specs.KindLaws.{kind_at-is}
 use Rattle.must_format.specs.declared.cause.Cause.{Cause}
 use Rattle.must_format.specs.declared.cause.Cause.TheVariants as cause
 use Rattle.must_format.specs.Values.{IsBytes, u32}
@@ -106,30 +103,6 @@ call_read k k' r p (f ∷ bytes) fits e =
     ]
 
 -- ---- the kind with a number
-
--- the kinds stand in the order of their numbers, from 1 on
-numbers : map number_of kinds ≡ range_with_len 1 67
-numbers = refl
-
-numbered : (i : ℕ) (k : Kind) → slice_get kinds i ≡ Some k → number_of k ≡ 1 + i
-numbered i k e =
-    let within : i < 67 = slice_get_within kinds i k e in
-    let found : slice_get (map number_of kinds) i ≡ Some (number_of k) = slice_get-map number_of kinds i ∙ ap (option_map number_of) e in
-    sym (get_or_from_slice_get (map number_of kinds) i (number_of k) 0 found) ∙ ap (λ (ns : List ℕ). get_or ns i 0) numbers ∙ get_or-range_with_len 1 67 i 0 within
-
-first_kind-is : (n : ℕ) (k : Kind) → first_kind_at n ≡ Some k → number_of k ≡ n
-first_kind-is n k e =
-    elim (chosen (eqb n 0) None (slice_get kinds (n - 1)) (Some k) e) [
-      | inl a ↦ let no = a.1 in absurd cc
-      | inr a ↦ omega (arith, numbered (n - 1) k a.1, eqb-false n 0 a.0)
-    ]
-
-pub kind_at-is : (version n : ℕ) (k : Kind) → kind_at version n ≡ Some k → number_of k ≡ n
-kind_at-is version n k e =
-    elim (chosen (eqb version 1) (first_kind_at n) None (Some k) e) [
-      | inl a ↦ first_kind-is n k a.1
-      | inr a ↦ let no = a.1 in absurd cc
-    ]
 
 -- ---- a whole record
 

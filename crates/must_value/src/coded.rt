@@ -2,13 +2,15 @@
 
 ghost use Rattle.std.specs.Prelude.{◌≡◌, ◌++◌, ◌↔◌, ◌<◌, ◌^◌, ℕ, List, drop, OnOk, IsTrue};
 ghost use Rattle.must_call.specs.declared.field.Item.TheVariants as item;
+ghost use Rattle.must_call.specs.declared.field.Ints.TheVariants as ints;
+ghost use Rattle.must_call.specs.declared.field.Side.TheVariants as side;
 ghost use Rattle.must_format.specs.Decoding.{item_at, status_at, completion_at};
 ghost use Rattle.must_format.specs.Values.{item_text, width, IsItem, IsStatus, status_text, completion_text};
 
 use crate::cursor::Cursor;
 use crate::putting::{put_bit, put_i32, put_i64, put_u32};
 use must_base::NoMemory;
-use must_call::{Amount, Block, ByteBlock, Completion, Dim, Status3, StructBlock};
+use must_call::{Amount, Completion, Dim, HindexItem, IndexItem, Status3, StructBlock};
 
 /// A value that takes as many bytes whatever it is.
 pub trait Coded: Copy + Drop {
@@ -58,13 +60,13 @@ impl Coded for u32 {
 }
 
 impl Coded for i32 {
-    ghost at = { item_at item.Int };
+    ghost at = { item_at (item.Int ints.Ranks) };
 
-    ghost text = { item_text item.Int };
+    ghost text = { item_text (item.Int ints.Ranks) };
 
-    ghost SIZE = { width item.Int };
+    ghost SIZE = { width (item.Int ints.Ranks) };
 
-    ghost can_stand = { IsItem item.Int };
+    ghost can_stand = { IsItem (item.Int ints.Ranks) };
 
     fn read(fields: &mut Cursor<'_>) -> Self {
         fields.i32()
@@ -101,7 +103,7 @@ impl Coded for i64 {
     }
 }
 
-impl Coded for Block {
+impl Coded for IndexItem {
     ghost at = { item_at item.Block };
 
     ghost text = { item_text item.Block };
@@ -113,7 +115,7 @@ impl Coded for Block {
     fn read(fields: &mut Cursor<'_>) -> Self {
         let block = fields.i32();
         let disp = fields.i32();
-        Block { block, disp }
+        IndexItem { block, disp }
     }
 
     fn put(self, out: &mut Vec<u8>) -> Result<(), NoMemory> {
@@ -126,7 +128,7 @@ impl Coded for Block {
     }
 }
 
-impl Coded for ByteBlock {
+impl Coded for HindexItem {
     ghost at = { item_at item.ByteBlock };
 
     ghost text = { item_text item.ByteBlock };
@@ -138,7 +140,7 @@ impl Coded for ByteBlock {
     fn read(fields: &mut Cursor<'_>) -> Self {
         let block = fields.i32();
         let disp = fields.i64();
-        ByteBlock { block, disp }
+        HindexItem { block, disp }
     }
 
     fn put(self, out: &mut Vec<u8>) -> Result<(), NoMemory> {
@@ -210,13 +212,13 @@ impl Coded for Dim {
 }
 
 impl Coded for Amount {
-    ghost at = { item_at item.Amount };
+    ghost at = { item_at (item.Amount side.Both) };
 
-    ghost text = { item_text item.Amount };
+    ghost text = { item_text (item.Amount side.Both) };
 
-    ghost SIZE = { width item.Amount };
+    ghost SIZE = { width (item.Amount side.Both) };
 
-    ghost can_stand = { IsItem item.Amount };
+    ghost can_stand = { IsItem (item.Amount side.Both) };
 
     fn read(fields: &mut Cursor<'_>) -> Self {
         let count = fields.i32();
