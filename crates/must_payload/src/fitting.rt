@@ -12,10 +12,8 @@ ghost use Rattle.must_payload.specs.Fields.{Fits, AllFit, GivenFits, OutputsFit,
 
 use crate::tables::output_of;
 use must_call::{Argument, Body, Call, Choice, Completion, Given, StatusList};
+use must_format::MOST_PAYLOAD;
 use must_value::Coded;
-
-/// The most bytes of a payload.
-const MOST_BYTES: u64 = 1_048_576;
 
 /// Whether a record may have the call: its outputs stand exactly where it returned, the values of its fields are
 /// those that a record may have, and its payload is at most 1,048,576 bytes. It takes no memory, and time linear in
@@ -84,19 +82,19 @@ fn argument_fits(argument: Argument<'_>) -> bool
 {
     match argument {
         Argument::Handle(_, handle) => handle.fits(),
-        Argument::U64(_) => true,
-        Argument::I32(n) => n.fits(),
-        Argument::I64(n) => n.fits(),
-        Argument::Bit(_) => true,
+        Argument::Buffer(..) => true,
+        Argument::I32(_, n) => n.fits(),
+        Argument::I64(_, n) => n.fits(),
+        Argument::Bit(..) => true,
         Argument::Order(order) => order < 2,
         Argument::Requests(list) => list_fits(list.items()),
-        Argument::Ints(list) => list_fits(list.items()),
+        Argument::Ints(_, list) => list_fits(list.items()),
         Argument::Aints(list) => list_fits(list.items()),
         Argument::Blocks(list) => list_fits(list.items()),
         Argument::ByteBlocks(list) => list_fits(list.items()),
         Argument::StructBlocks(list) => list_fits(list.items()),
         Argument::Dims(list) => list_fits(list.items()),
-        Argument::Amounts(list) => list_fits(list.items()),
+        Argument::Amounts(_, list) => list_fits(list.items()),
     }
 }
 
@@ -205,17 +203,17 @@ fn argument_length(argument: Argument<'_>) -> u64
     ensures { result ≡ size_of argument.entry }
 {
     match argument {
-        Argument::Bit(_) | Argument::Order(_) => 1,
-        Argument::Handle(_, _) | Argument::I32(_) => 4,
-        Argument::U64(_) | Argument::I64(_) => 8,
+        Argument::Bit(..) | Argument::Order(_) => 1,
+        Argument::Handle(_, _) | Argument::I32(..) => 4,
+        Argument::Buffer(..) | Argument::I64(..) => 8,
         Argument::Requests(list) => list_length(4, list.items().len()),
-        Argument::Ints(list) => list_length(4, list.items().len()),
+        Argument::Ints(_, list) => list_length(4, list.items().len()),
         Argument::Aints(list) => list_length(8, list.items().len()),
         Argument::Blocks(list) => list_length(8, list.items().len()),
         Argument::ByteBlocks(list) => list_length(12, list.items().len()),
         Argument::StructBlocks(list) => list_length(16, list.items().len()),
         Argument::Dims(list) => list_length(12, list.items().len()),
-        Argument::Amounts(list) => list_length(8, list.items().len()),
+        Argument::Amounts(_, list) => list_length(8, list.items().len()),
     }
 }
 
@@ -258,7 +256,7 @@ fn is_short(arguments: &[Argument<'_>], given: Option<Given<'_>>) -> bool
     requires { AllFit arguments.now }
     ensures { IsTrue result ↔ (sizes arguments.now + outputs_size given.entry ≤ 1048576) }
 {
-    let Some(room) = room_behind(arguments, MOST_BYTES) else {
+    let Some(room) = room_behind(arguments, u64::from(MOST_PAYLOAD)) else {
         return false;
     };
     match given {

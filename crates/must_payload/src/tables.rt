@@ -3,7 +3,7 @@
 ghost use Rattle.std.specs.Prelude.{◌≡◌};
 ghost use Rattle.must_call.specs.Fields.{inputs, output};
 
-use must_call::{Class, Field, Item, Kind, Output};
+use must_call::{Aint, Class, Field, Flag, Handle, Int, Ints, Item, Kind, Output, Side};
 
 /// The fields that stand in each record of the kind.
 pub fn inputs_of(kind: Kind) -> &'static [Field]
@@ -15,202 +15,222 @@ pub fn inputs_of(kind: Kind) -> &'static [Field]
         | Kind::Ssend
         | Kind::Bsend
         | Kind::Rsend
-        | Kind::Recv
         | Kind::Isend
         | Kind::Issend
-        | Kind::Ibsend => &[
-            Field::U64,
-            Field::I32,
-            Field::Handle(Class::Datatype),
-            Field::I32,
-            Field::I32,
-            Field::Handle(Class::Comm),
+        | Kind::Ibsend
+        | Kind::Irsend => &[
+            Field::Buffer(Side::Send),
+            Field::I32(Int::Count(Side::Send)),
+            Field::Handle(Handle::Datatype(Side::Send)),
+            Field::I32(Int::Dest),
+            Field::I32(Int::Tag(Side::Send)),
+            Field::Handle(Handle::Comm),
         ],
-        Kind::Irsend | Kind::Irecv => &[
-            Field::U64,
-            Field::I32,
-            Field::Handle(Class::Datatype),
-            Field::I32,
-            Field::I32,
-            Field::Handle(Class::Comm),
+        Kind::SendInit | Kind::SsendInit => &[
+            Field::Buffer(Side::Send),
+            Field::I32(Int::Count(Side::Send)),
+            Field::Handle(Handle::Datatype(Side::Send)),
+            Field::I32(Int::Dest),
+            Field::I32(Int::Tag(Side::Send)),
+            Field::Handle(Handle::Comm),
+        ],
+        Kind::Recv | Kind::Irecv | Kind::RecvInit => &[
+            Field::Buffer(Side::Receive),
+            Field::I32(Int::Count(Side::Receive)),
+            Field::Handle(Handle::Datatype(Side::Receive)),
+            Field::I32(Int::Source),
+            Field::I32(Int::Tag(Side::Receive)),
+            Field::Handle(Handle::Comm),
         ],
         Kind::Sendrecv => &[
-            Field::U64,
-            Field::I32,
-            Field::Handle(Class::Datatype),
-            Field::I32,
-            Field::I32,
-            Field::U64,
-            Field::I32,
-            Field::Handle(Class::Datatype),
-            Field::I32,
-            Field::I32,
-            Field::Handle(Class::Comm),
+            Field::Buffer(Side::Send),
+            Field::I32(Int::Count(Side::Send)),
+            Field::Handle(Handle::Datatype(Side::Send)),
+            Field::I32(Int::Dest),
+            Field::I32(Int::Tag(Side::Send)),
+            Field::Buffer(Side::Receive),
+            Field::I32(Int::Count(Side::Receive)),
+            Field::Handle(Handle::Datatype(Side::Receive)),
+            Field::I32(Int::Source),
+            Field::I32(Int::Tag(Side::Receive)),
+            Field::Handle(Handle::Comm),
         ],
-        Kind::Probe | Kind::Iprobe => &[Field::I32, Field::I32, Field::Handle(Class::Comm)],
-        Kind::Wait | Kind::Test | Kind::RequestFree | Kind::Cancel => &[Field::Handle(
-            Class::Request,
+        Kind::Probe | Kind::Iprobe => &[
+            Field::I32(Int::Source),
+            Field::I32(Int::Tag(Side::Receive)),
+            Field::Handle(Handle::Comm),
+        ],
+        Kind::Wait | Kind::Test | Kind::RequestFree | Kind::Cancel | Kind::Start => &[Field::Handle(
+            Handle::Request,
         )],
         Kind::Waitall
         | Kind::Waitany
         | Kind::Waitsome
         | Kind::Testall
         | Kind::Testany
-        | Kind::Testsome => &[Field::Items(Item::Request)],
-        Kind::TypeContiguous => &[Field::I32, Field::Handle(Class::Datatype)],
+        | Kind::Testsome
+        | Kind::Startall => &[Field::Items(Item::Request)],
+        Kind::TypeContiguous => &[Field::I32(Int::Copies), Field::Handle(Handle::Old)],
         Kind::TypeVector => &[
-            Field::I32,
-            Field::I32,
-            Field::I32,
-            Field::Handle(Class::Datatype),
+            Field::I32(Int::Copies),
+            Field::I32(Int::Block),
+            Field::I32(Int::Stride),
+            Field::Handle(Handle::Old),
         ],
         Kind::TypeHvector => &[
-            Field::I32,
-            Field::I32,
-            Field::I64,
-            Field::Handle(Class::Datatype),
+            Field::I32(Int::Copies),
+            Field::I32(Int::Block),
+            Field::I64(Aint::Stride),
+            Field::Handle(Handle::Old),
         ],
-        Kind::TypeIndexed => &[Field::Items(Item::Block), Field::Handle(Class::Datatype)],
-        Kind::TypeHindexed => &[
-            Field::Items(Item::ByteBlock),
-            Field::Handle(Class::Datatype),
-        ],
+        Kind::TypeIndexed => &[Field::Items(Item::Block), Field::Handle(Handle::Old)],
+        Kind::TypeHindexed => &[Field::Items(Item::ByteBlock), Field::Handle(Handle::Old)],
         Kind::TypeIndexedBlock => &[
-            Field::I32,
-            Field::Items(Item::Int),
-            Field::Handle(Class::Datatype),
+            Field::I32(Int::Block),
+            Field::Items(Item::Int(Ints::Displacements)),
+            Field::Handle(Handle::Old),
         ],
         Kind::TypeHindexedBlock => &[
-            Field::I32,
+            Field::I32(Int::Block),
             Field::Items(Item::Aint),
-            Field::Handle(Class::Datatype),
+            Field::Handle(Handle::Old),
         ],
         Kind::TypeStruct => &[Field::Items(Item::StructBlock)],
-        Kind::TypeDup | Kind::TypeCommit | Kind::TypeFree => &[Field::Handle(Class::Datatype)],
-        Kind::TypeResized => &[Field::I64, Field::I64, Field::Handle(Class::Datatype)],
+        Kind::TypeDup => &[Field::Handle(Handle::Old)],
+        Kind::TypeResized => &[
+            Field::I64(Aint::LowerBound),
+            Field::I64(Aint::Extent),
+            Field::Handle(Handle::Old),
+        ],
         Kind::TypeSubarray => &[
             Field::Order,
             Field::Items(Item::Dim),
-            Field::Handle(Class::Datatype),
+            Field::Handle(Handle::Old),
         ],
-        Kind::OpCreate => &[Field::Bit],
-        Kind::OpFree => &[Field::Handle(Class::Operation)],
-        Kind::CommGroup | Kind::CommDup | Kind::CommFree | Kind::Barrier => &[Field::Handle(
-            Class::Comm,
-        )],
+        Kind::TypeCommit | Kind::TypeFree => &[Field::Handle(Handle::Subject)],
+        Kind::OpCreate => &[Field::Bit(Flag::Commute)],
+        Kind::OpFree => &[Field::Handle(Handle::Operation)],
+        Kind::CommGroup | Kind::CommDup | Kind::CommFree | Kind::Barrier | Kind::Ibarrier => &[
+            Field::Handle(Handle::Comm),
+        ],
         Kind::GroupIncl | Kind::GroupExcl => &[
-            Field::Handle(Class::Group),
-            Field::Items(Item::Int),
+            Field::Handle(Handle::Group),
+            Field::Items(Item::Int(Ints::Ranks)),
         ],
         Kind::GroupUnion | Kind::GroupIntersection | Kind::GroupDifference => &[
-            Field::Handle(Class::Group),
-            Field::Handle(Class::Group),
+            Field::Handle(Handle::Group),
+            Field::Handle(Handle::Group),
         ],
-        Kind::GroupFree => &[Field::Handle(Class::Group)],
-        Kind::CommSplit => &[Field::Handle(Class::Comm), Field::I32, Field::I32],
-        Kind::CommCreate => &[Field::Handle(Class::Comm), Field::Handle(Class::Group)],
-        Kind::Bcast => &[
-            Field::U64,
-            Field::I32,
-            Field::Handle(Class::Datatype),
-            Field::I32,
-            Field::Handle(Class::Comm),
+        Kind::GroupFree => &[Field::Handle(Handle::Group)],
+        Kind::CommSplit => &[
+            Field::Handle(Handle::Comm),
+            Field::I32(Int::Color),
+            Field::I32(Int::Key),
         ],
-        Kind::Gather | Kind::Scatter => &[
-            Field::Bit,
-            Field::U64,
-            Field::I32,
-            Field::Handle(Class::Datatype),
-            Field::U64,
-            Field::I32,
-            Field::Handle(Class::Datatype),
-            Field::I32,
-            Field::Handle(Class::Comm),
+        Kind::CommCreate => &[Field::Handle(Handle::Comm), Field::Handle(Handle::Group)],
+        Kind::Bcast | Kind::Ibcast => &[
+            Field::Buffer(Side::Both),
+            Field::I32(Int::Count(Side::Both)),
+            Field::Handle(Handle::Datatype(Side::Both)),
+            Field::I32(Int::Root),
+            Field::Handle(Handle::Comm),
+        ],
+        Kind::Gather | Kind::Scatter | Kind::Igather => &[
+            Field::Bit(Flag::InPlace),
+            Field::Buffer(Side::Send),
+            Field::I32(Int::Count(Side::Send)),
+            Field::Handle(Handle::Datatype(Side::Send)),
+            Field::Buffer(Side::Receive),
+            Field::I32(Int::Count(Side::Receive)),
+            Field::Handle(Handle::Datatype(Side::Receive)),
+            Field::I32(Int::Root),
+            Field::Handle(Handle::Comm),
         ],
         Kind::Gatherv => &[
-            Field::Bit,
-            Field::U64,
-            Field::I32,
-            Field::Handle(Class::Datatype),
-            Field::U64,
-            Field::Items(Item::Amount),
-            Field::Handle(Class::Datatype),
-            Field::I32,
-            Field::Handle(Class::Comm),
+            Field::Bit(Flag::InPlace),
+            Field::Buffer(Side::Send),
+            Field::I32(Int::Count(Side::Send)),
+            Field::Handle(Handle::Datatype(Side::Send)),
+            Field::Buffer(Side::Receive),
+            Field::Items(Item::Amount(Side::Receive)),
+            Field::Handle(Handle::Datatype(Side::Receive)),
+            Field::I32(Int::Root),
+            Field::Handle(Handle::Comm),
         ],
         Kind::Scatterv => &[
-            Field::Bit,
-            Field::U64,
-            Field::Items(Item::Amount),
-            Field::Handle(Class::Datatype),
-            Field::U64,
-            Field::I32,
-            Field::Handle(Class::Datatype),
-            Field::I32,
-            Field::Handle(Class::Comm),
+            Field::Bit(Flag::InPlace),
+            Field::Buffer(Side::Send),
+            Field::Items(Item::Amount(Side::Send)),
+            Field::Handle(Handle::Datatype(Side::Send)),
+            Field::Buffer(Side::Receive),
+            Field::I32(Int::Count(Side::Receive)),
+            Field::Handle(Handle::Datatype(Side::Receive)),
+            Field::I32(Int::Root),
+            Field::Handle(Handle::Comm),
         ],
-        Kind::Allgather | Kind::Alltoall => &[
-            Field::Bit,
-            Field::U64,
-            Field::I32,
-            Field::Handle(Class::Datatype),
-            Field::U64,
-            Field::I32,
-            Field::Handle(Class::Datatype),
-            Field::Handle(Class::Comm),
+        Kind::Allgather | Kind::Alltoall | Kind::Iallgather | Kind::Ialltoall => &[
+            Field::Bit(Flag::InPlace),
+            Field::Buffer(Side::Send),
+            Field::I32(Int::Count(Side::Send)),
+            Field::Handle(Handle::Datatype(Side::Send)),
+            Field::Buffer(Side::Receive),
+            Field::I32(Int::Count(Side::Receive)),
+            Field::Handle(Handle::Datatype(Side::Receive)),
+            Field::Handle(Handle::Comm),
         ],
         Kind::Allgatherv => &[
-            Field::Bit,
-            Field::U64,
-            Field::I32,
-            Field::Handle(Class::Datatype),
-            Field::U64,
-            Field::Items(Item::Amount),
-            Field::Handle(Class::Datatype),
-            Field::Handle(Class::Comm),
+            Field::Bit(Flag::InPlace),
+            Field::Buffer(Side::Send),
+            Field::I32(Int::Count(Side::Send)),
+            Field::Handle(Handle::Datatype(Side::Send)),
+            Field::Buffer(Side::Receive),
+            Field::Items(Item::Amount(Side::Receive)),
+            Field::Handle(Handle::Datatype(Side::Receive)),
+            Field::Handle(Handle::Comm),
         ],
         Kind::Alltoallv => &[
-            Field::Bit,
-            Field::U64,
-            Field::Items(Item::Amount),
-            Field::Handle(Class::Datatype),
-            Field::U64,
-            Field::Items(Item::Amount),
-            Field::Handle(Class::Datatype),
-            Field::Handle(Class::Comm),
+            Field::Bit(Flag::InPlace),
+            Field::Buffer(Side::Send),
+            Field::Items(Item::Amount(Side::Send)),
+            Field::Handle(Handle::Datatype(Side::Send)),
+            Field::Buffer(Side::Receive),
+            Field::Items(Item::Amount(Side::Receive)),
+            Field::Handle(Handle::Datatype(Side::Receive)),
+            Field::Handle(Handle::Comm),
         ],
-        Kind::Reduce => &[
-            Field::Bit,
-            Field::U64,
-            Field::U64,
-            Field::I32,
-            Field::Handle(Class::Datatype),
-            Field::Handle(Class::Operation),
-            Field::I32,
-            Field::Handle(Class::Comm),
+        Kind::Reduce | Kind::Ireduce => &[
+            Field::Bit(Flag::InPlace),
+            Field::Buffer(Side::Send),
+            Field::Buffer(Side::Receive),
+            Field::I32(Int::Count(Side::Both)),
+            Field::Handle(Handle::Datatype(Side::Both)),
+            Field::Handle(Handle::Operation),
+            Field::I32(Int::Root),
+            Field::Handle(Handle::Comm),
         ],
-        Kind::Allreduce | Kind::ReduceScatterBlock | Kind::Scan | Kind::Exscan => &[
-            Field::Bit,
-            Field::U64,
-            Field::U64,
-            Field::I32,
-            Field::Handle(Class::Datatype),
-            Field::Handle(Class::Operation),
-            Field::Handle(Class::Comm),
-        ],
+        Kind::Allreduce | Kind::ReduceScatterBlock | Kind::Scan | Kind::Exscan | Kind::Iallreduce =>
+            &[
+                Field::Bit(Flag::InPlace),
+                Field::Buffer(Side::Send),
+                Field::Buffer(Side::Receive),
+                Field::I32(Int::Count(Side::Both)),
+                Field::Handle(Handle::Datatype(Side::Both)),
+                Field::Handle(Handle::Operation),
+                Field::Handle(Handle::Comm),
+            ],
         Kind::ReduceScatter => &[
-            Field::Bit,
-            Field::U64,
-            Field::U64,
-            Field::Items(Item::Int),
-            Field::Handle(Class::Datatype),
-            Field::Handle(Class::Operation),
-            Field::Handle(Class::Comm),
+            Field::Bit(Flag::InPlace),
+            Field::Buffer(Side::Send),
+            Field::Buffer(Side::Receive),
+            Field::Items(Item::Int(Ints::Counts)),
+            Field::Handle(Handle::Datatype(Side::Both)),
+            Field::Handle(Handle::Operation),
+            Field::Handle(Handle::Comm),
         ],
     }
 }
 
-/// What stands behind them in the records of calls that returned.
+/// What stands behind them where the call returned.
 pub fn output_of(kind: Kind) -> Option<Output>
     ensures { result ≡ output kind }
 {
@@ -243,12 +263,26 @@ pub fn output_of(kind: Kind) -> Option<Output>
         | Kind::ReduceScatter
         | Kind::ReduceScatterBlock
         | Kind::Scan
-        | Kind::Exscan => None,
+        | Kind::Exscan
+        | Kind::Start
+        | Kind::Startall => None,
         Kind::Recv | Kind::Sendrecv | Kind::Probe | Kind::Wait => Some(Output::Status),
         Kind::Iprobe | Kind::Test => Some(Output::MaybeStatus),
-        Kind::Isend | Kind::Issend | Kind::Ibsend | Kind::Irsend | Kind::Irecv => Some(Output::Made(
-            Class::Request,
-        )),
+        Kind::Isend
+        | Kind::Issend
+        | Kind::Ibsend
+        | Kind::Irsend
+        | Kind::Irecv
+        | Kind::SendInit
+        | Kind::SsendInit
+        | Kind::RecvInit => Some(Output::Made(Class::Request)),
+        Kind::Ibarrier
+        | Kind::Ibcast
+        | Kind::Igather
+        | Kind::Iallgather
+        | Kind::Ialltoall
+        | Kind::Ireduce
+        | Kind::Iallreduce => Some(Output::Made(Class::Request)),
         Kind::Waitall => Some(Output::Statuses),
         Kind::Waitany => Some(Output::Choice),
         Kind::Waitsome | Kind::Testsome => Some(Output::Completions),

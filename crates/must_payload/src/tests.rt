@@ -4,7 +4,7 @@ ghost use Rattle.must_format.specs.Spelling.{IsSpellable};
 
 use crate::{fits, inputs_of, output_of, put_payload, read_payload};
 use must_base::NoMemory;
-use must_call::{Body, Call, Class, Collective, Field, Item, Kind, Output, Point};
+use must_call::{Body, Call, Collective, Field, Handle, Item, Kind, Output, Point};
 use std::alloc::Global;
 use std::process::Abort;
 use std::test::Fail;
@@ -21,7 +21,7 @@ fn tables(rt: HostRuntime) {
     assert!(rt;
         matches!(
             inputs_of(Kind::CommCreate),
-            [Field::Handle(Class::Comm), Field::Handle(Class::Group)]
+            [Field::Handle(Handle::Comm), Field::Handle(Handle::Group)]
         )
     );
     assert!(rt; matches!(output_of(Kind::CommCreate), Some(Output::MadeComm)));
