@@ -1,10 +1,12 @@
 //! The first fault of a payload.
 
-ghost use Rattle.std.specs.Prelude.{◌≡◌, ◌≤◌};
+ghost use Rattle.std.specs.Prelude.{◌≡◌, ◌≤◌, IfOk};
+ghost use Rattle.must_call.specs.Fields.{inputs};
 ghost use Rattle.must_format.specs.Values.{requests, width};
-ghost use Rattle.must_format.specs.Decoding.{u32_at, list_at, value_at, requests_at};
+ghost use Rattle.must_format.specs.Decoding.{u32_at, list_at, value_at, requests_at, behind_all};
 ghost use Rattle.must_format.specs.Judging.{Gives, past, past_bit, past_list, one, all_of, past_status, past_statuses, past_flagged, choice_index, past_choice, completion_index, past_completion, past_all_completions, past_completions, past_output, past_outcome, whole, nothing_left as nothing_left_of};
 ghost use Rattle.must_format.specs.Record.{end_whole};
+ghost use Rattle.must_record.specs.Views.{outputs_whole};
 
 use must_call::{Field, Item, Kind, Output};
 use must_format::Cause;
@@ -45,8 +47,8 @@ fn width_of(item: Item) -> usize
     ensures most { result ≤ 16 }
 {
     match item {
-        Item::Request | Item::Int => 4,
-        Item::Aint | Item::Block | Item::Amount => 8,
+        Item::Request | Item::Int(_) => 4,
+        Item::Aint | Item::Block | Item::Amount(_) => 8,
         Item::ByteBlock | Item::Dim => 12,
         Item::StructBlock => 16,
     }
@@ -64,9 +66,9 @@ fn skip_field(field: Field, bytes: &[u8]) -> Result<&[u8], Cause>
     ensures { Gives (λ rest. rest.now) result (one field bytes.now) }
 {
     match field {
-        Field::Handle(_) | Field::I32 => skip(4, bytes),
-        Field::U64 | Field::I64 => skip(8, bytes),
-        Field::Bit | Field::Order => skip_bit(bytes),
+        Field::Handle(_) | Field::I32(_) => skip(4, bytes),
+        Field::Buffer(_) | Field::I64(_) => skip(8, bytes),
+        Field::Bit(_) | Field::Order => skip_bit(bytes),
         Field::Items(item) => skip_list(item, bytes),
     }
 }
@@ -87,13 +89,13 @@ fn list_requests(item: Item, bytes: &[u8]) -> u32
 {
     match item {
         Item::Request => count_at(bytes),
-        Item::Int
+        Item::Int(_)
         | Item::Aint
         | Item::Block
         | Item::ByteBlock
         | Item::StructBlock
         | Item::Dim
-        | Item::Amount => 0,
+        | Item::Amount(_) => 0,
     }
 }
 
@@ -103,7 +105,12 @@ fn field_requests(field: Field, bytes: &[u8]) -> u32
 {
     match field {
         Field::Items(item) => list_requests(item, bytes),
-        Field::Handle(_) | Field::U64 | Field::I32 | Field::I64 | Field::Bit | Field::Order => 0,
+        Field::Handle(_)
+        | Field::Buffer(_)
+        | Field::I32(_)
+        | Field::I64(_)
+        | Field::Bit(_)
+        | Field::Order => 0,
     }
 }
 
@@ -290,14 +297,24 @@ fn nothing_left(rest: &[u8]) -> Result<(), Cause>
     Ok(())
 }
 
-/// Whether the payload has the fields of its kind and nothing else, or else its first fault.
+/// Whether the payload has the fields of its kind and nothing else, and then what stands behind the fields of each record
+/// of the kind; or else its first fault.
 #[tactic(auto, unfolding(must_format::specs::Judging::whole))]
-pub fn judge_payload(kind: Kind, returned: bool, payload: &[u8]) -> Result<(), Cause>
-    ensures { Gives (λ u. u) result (whole kind returned payload.now) }
+pub fn judge_payload(kind: Kind, returned: bool, payload: &[u8]) -> Result<&[u8], Cause>
+    ensures whole { Gives (λ outputs. tt) result (whole kind returned payload.now) }
+    ensures outputs { IfOk result (λ outputs. outputs.now ≡ behind_all (inputs kind) payload.now) }
 {
-    let rest = skip_fields(inputs_of(kind), payload)?;
+    let outputs = skip_fields(inputs_of(kind), payload)?;
+    judge_outputs(kind, returned, payload, outputs)?;
+    Ok(outputs)
+}
+
+/// Whether the outputs are those of the kind and nothing else.
+fn judge_outputs(kind: Kind, returned: bool, payload: &[u8], outputs: &[u8]) -> Result<(), Cause>
+    ensures { Gives (λ u. u) result (outputs_whole kind returned payload.now outputs.now) }
+{
     let requests = requests_of(kind, payload);
-    let rest = skip_outcome(output_of(kind), returned, requests, rest)?;
+    let rest = skip_outcome(output_of(kind), returned, requests, outputs)?;
     nothing_left(rest)
 }
 

@@ -7,6 +7,7 @@
 
 mod judging;
 mod laws;
+mod made;
 mod record;
 #[cfg(test)]
 mod tests;

@@ -6,7 +6,9 @@ mod fields;
 mod finish;
 mod lengths;
 mod object;
+mod persist;
 mod point;
+mod started;
 mod unfit;
 
 use crate::{Step, fits, known_kinds, one_spelling, read_record, write_record};
@@ -58,19 +60,19 @@ fn bytes_of(alloc: Global, text: &str) -> Result<Vec<u8>, Fail> {
     Ok(bytes)
 }
 
-/// Whether a record of so many bytes stands at the front.
+/// Whether a record of so many bytes stands at the front, in version 2, which knows all kinds.
 fn is_whole(bytes: &[u8], record: usize) -> bool {
-    matches!(read_record(1, bytes), Step::Whole { len, .. } if len as usize == record)
+    matches!(read_record(2, bytes), Step::Whole { len, .. } if len as usize == record)
 }
 
 /// Whether more is wanted where there are so many bytes alone.
 fn is_cut(record: &[u8], len: usize) -> bool {
-    matches!(read_record(1, &record[..record.len().min(len)]), Step::More)
+    matches!(read_record(2, &record[..record.len().min(len)]), Step::More)
 }
 
 /// The call whose record stands at the front.
 fn call_of(alloc: Global, bytes: &[u8]) -> Result<Call, Fail> {
-    let Step::Whole { call, .. } = read_record(1, bytes) else {
+    let Step::Whole { call, .. } = read_record(2, bytes) else {
         return Err("no record".into());
     };
     let call = call.to_call(alloc).ok().ok_or("no memory")?;
@@ -151,11 +153,25 @@ fn is_read(
     is_written(rt, alloc, &call, case, record)
 }
 
-/// No other version knows the record, and more is wanted where a byte of it is missing.
+/// Version 1 knows the record where its kind is one of the first 67, no version past 2 knows it, and more is wanted where
+/// a byte of it is missing.
 fn is_refused(rt: &impl Abort, case: &Case, record: &[u8]) {
-    for version in [0, 2, 255] {
+    for version in [0, 3, 255] {
         assert!(rt; matches!(read_record(version, record), Step::Bad(Cause::Kind)));
     }
+    let later = matches!(record.first(), Some(68..));
+    assert_eq!(rt;
+        matches!(read_record(1, record), Step::Bad(Cause::Kind)),
+        later,
+        "{}",
+        case.record
+    );
+    assert_eq!(rt;
+        matches!(read_record(1, record), Step::Whole { .. }),
+        !later,
+        "{}",
+        case.record
+    );
     for len in 0..record.len() {
         assert!(rt; is_cut(record, len), "{len} bytes of {}", case.record);
     }
@@ -211,6 +227,16 @@ fn calls_on_other_objects(rt: HostRuntime) -> Result<(), Fail> {
 #[test]
 fn collective_calls(rt: HostRuntime) -> Result<(), Fail> {
     are_read(&rt, rt.alloc(), collective::COLLECTIVE, 52, 67)
+}
+
+#[test]
+fn calls_on_persistent_requests(rt: HostRuntime) -> Result<(), Fail> {
+    are_read(&rt, rt.alloc(), persist::PERSIST, 68, 72)
+}
+
+#[test]
+fn nonblocking_collective_calls(rt: HostRuntime) -> Result<(), Fail> {
+    are_read(&rt, rt.alloc(), started::STARTED, 73, 79)
 }
 
 /// The length of the record that the bytes are, or why they are refused; neither where they are no record of a call.
