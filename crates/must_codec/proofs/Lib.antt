@@ -1,5 +1,5 @@
-pub mod Longer
-pub mod Headers
-pub mod Opening
-pub mod Reading
-pub mod Accepting
+mod Places
+mod Windows
+mod Steps
+mod Headers
+mod Standing

@@ -1,10 +1,11 @@
 -- A reader from its fields.
-use Rattle.std.specs.Prelude.{◌≡◌, ℕ, ◌≤◌, List, [], Option, Some, None}
+use Rattle.std.specs.Prelude.{◌≡◌, ℕ, List, [], Option, Some, None}
 use Rattle.must_format.specs.declared.header.Header.{Header}
-use Rattle.must_format.specs.Reader.{Phase, Fresh, Before, Ended, Failed}
-use Rattle.must_format.specs.Stream.{byte_limit}
 use Rattle.must_codec.specs.declared.stream.State.{State}
 use Rattle.must_codec.specs.declared.stream.State.TheVariants as state
+use Rattle.must_codec.specs.Reader.{Phase, Fresh, Before, Ended, Failed}
+use Rattle.must_format.specs.declared.expect.Expect.{Expect}
+use Rattle.must_codec.specs.Views.{IsExpect, IsReady}
 
 abbrev pub phase_of : State → Phase
 phase_of state.Fresh = Fresh
@@ -18,9 +19,9 @@ header_in (state.Running header place) = Some header
 header_in (state.Ended header) = Some header
 header_in (state.Failed header fault) = header
 
--- before its first read a reader took nothing; later its place is within the byte limit
-abbrev pub IsReady : State → ℕ → List ℕ → Type 0
-IsReady state.Fresh n bytes = bytes ≡ []
-IsReady (state.Running header place) n bytes = place.at ≤ byte_limit n
-IsReady (state.Ended header) n bytes = Unit {0}
-IsReady (state.Failed header fault) n bytes = Unit {0}
+-- before its first read a reader took nothing; later its place and its bytes are within the limits
+abbrev pub HoldsReady : State → Option Expect → List ℕ → Type 0
+HoldsReady state.Fresh e window = (window ≡ []) × IsExpect e
+HoldsReady (state.Running header place) e window = IsReady header place window
+HoldsReady (state.Ended header) e window = Unit {0}
+HoldsReady (state.Failed header fault) e window = Unit {0}

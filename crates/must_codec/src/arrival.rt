@@ -1,34 +1,37 @@
-//! One step of reading a stream.
+//! What comes at a place of a stream.
 
-ghost use Rattle.std.specs.Prelude.{◌≡◌, ◌≤◌, ◌+◌, ◌-◌, ◌^◌, ◌<◌, take, length};
-ghost use Rattle.must_format.specs.Stream.{coming, coming_front, byte_limit};
+ghost use Rattle.std.specs.Prelude.{◌≡◌, ◌≤◌, ◌<◌, ◌+◌, ◌-◌, ◌∷◌, ◌++◌, [], List, ℕ, Bool, Ok, Some, min, not, ◌||◌, cond, take, length};
+ghost use Rattle.must_call.specs.declared.call.Call.{Call};
+ghost use Rattle.must_call.specs.declared.constants.TheConstants.{FIRST_MADE};
+ghost use Rattle.must_format.specs.declared.limits.TheConstants.{MOST_RANKS, RUN_CALLS};
+ghost use Rattle.must_format.specs.Payload.{record_length};
+ghost use Rattle.must_format.specs.Judging.{whole};
+ghost use Rattle.must_format.specs.Decoding.{call_at};
+ghost use Rattle.must_format.specs.Record.{front};
+ghost use Rattle.must_format.specs.Stream.{byte_limit, coming_call, room_behind, gives_none as gives_none_of, is_spare as is_spare_of, is_due as is_due_of, is_made};
 ghost use Rattle.must_record.specs.Views.{seen, HasLen};
-ghost use Rattle.must_codec.specs.Views.{coming_seen, IsWithin, Comes, IsBehind};
+ghost use Rattle.must_codec.specs.Reader.{IsPlace};
+ghost use Rattle.must_codec.specs.Views.{coming_seen, IsWithin, Says};
 
-use must_call::Call;
-use must_format::{Cause, Limit, StreamFault, StreamPlace};
+use must_call::{Class, FIRST_MADE, GROUP_EMPTY, Kind, NULL_HANDLE};
+use must_format::{Cause, Header, Limit, RUN_BYTES, RUN_CALLS, StreamFault, StreamPlace};
 use must_record::{CallView, Step, read_record};
-use std::alloc::Global;
-
-/// The most bytes and calls of all streams of a run.
-const RUN_BYTES: u32 = 536_870_912;
-
-const RUN_CALLS: u32 = 8_388_608;
 
 /// The most bytes of a stream in a run of so many ranks.
-pub fn byte_limit_of(size: u32) -> u32
+pub(crate) fn byte_limit_of(size: u32) -> u32
     requires { 0 < size }
     ensures { result ≡ byte_limit size }
 {
     RUN_BYTES / size
 }
 
-/// What comes at a place: a call with the length of its record, the end of the stream, or a refusal.
+/// What comes at a place: a call, the end of the stream, or a refusal; or nothing can be said yet.
 #[derive(Drop)]
-enum Arrival<'a> {
-    Next(CallView<'a>, u32),
+pub(crate) enum Arrival<'a> {
+    Next(CallView<'a>),
     Done,
     Stop(StreamFault),
+    Short,
 }
 
 fn malformed<'a>(at: u64, cause: Cause) -> Arrival<'a>
@@ -43,45 +46,111 @@ fn bound<'a>(at: u64, limit: Limit) -> Arrival<'a>
     Arrival::Stop(StreamFault::Bound { at, limit })
 }
 
-/// What comes at a place with this step, where so many bytes stand and so many of them lie within the byte limit.
+/// Whether the kind gives some ranks no communicator.
+fn gives_none(kind: Kind) -> bool
+    ensures { result ≡ gives_none_of kind }
+{
+    match kind {
+        Kind::CommSplit | Kind::CommCreate => true,
+        _ => false,
+    }
+}
+
+/// Whether the handle takes no new number.
+fn is_spare(kind: Kind, class: Class, handle: u32) -> bool
+    ensures { result ≡ is_spare_of kind class handle }
+{
+    match class {
+        Class::Comm => gives_none(kind) && handle == NULL_HANDLE,
+        Class::Group => handle == GROUP_EMPTY,
+        Class::Datatype | Class::Operation | Class::Request => false,
+    }
+}
+
+/// Whether a call of the kind may have made this, where the next handle has this number.
+fn is_due(next: u32, kind: Kind, made: Option<(Class, u32)>) -> bool
+    ensures { result ≡ is_due_of next kind made }
+{
+    match made {
+        None => true,
+        Some((class, handle)) => handle == next || is_spare(kind, class, handle),
+    }
+}
+
+/// How many new numbers the handle took: one, but for a handle that is none or the empty group.
+fn handles_made(made: Option<(Class, u32)>) -> u32
+    ensures { result ≡ cond (is_made made) 1 0 }
+{
+    match made {
+        None => 0,
+        Some((_, handle)) => { if handle < FIRST_MADE { 0 } else { 1 } }
+    }
+}
+
+/// The call, or why it may not stand behind those before it.
+#[tactic(auto, unfolding(must_format::specs::Stream::coming_call))]
+fn judge_call(header: Header, place: StreamPlace, view: CallView<'_>) -> Arrival<'_>
+    requires size { (0 < header.size) × (header.size ≤ MOST_RANKS) }
+    requires rank { header.rank < header.size }
+    ensures exact { (given : List Call) → IsPlace place given
+        → coming_seen result ≡ Some (coming_call header.rank header.size given (call_at view.entry.kind view.entry.returned view.entry.payload.now)) }
+    ensures within { (ended : Bool) (behind : ℕ) → 6 + length view.entry.payload.now ≤ behind → place.at + (6 + length view.entry.payload.now) ≤ byte_limit header.size
+        → IsWithin result place header ended behind }
+{
+    if place.stuck {
+        return malformed(place.at, Cause::AfterUnreturned);
+    }
+    if place.number >= RUN_CALLS / header.size {
+        return bound(place.at, Limit::Calls);
+    }
+    if !is_due(place.next_handle, view.kind, view.made()) {
+        return malformed(place.at, Cause::HandleNumber);
+    }
+    if !view.members_stand(header.rank, header.size) {
+        return malformed(place.at, Cause::Members);
+    }
+    Arrival::Next(view)
+}
+
+/// What comes at a place with this step over the bytes at hand, where so many bytes stand there and so many of them may lie
+/// within the byte limit. `ended` says that no more will come.
 fn arrival_of(
-    size: u32,
+    header: Header,
     place: StreamPlace,
     behind: usize,
     room: usize,
+    ended: bool,
     step: Step<'_>,
 ) -> Arrival<'_>
-    requires size { 0 < size }
-    requires small { place.at < 2 ^ 32 }
-    requires len { HasLen step room }
-    ensures exact { coming_seen result ≡ coming_front size place behind room (seen step.entry) }
-    ensures within { IsWithin result place room }
+    requires size { (0 < header.size) × (header.size ≤ MOST_RANKS) }
+    requires rank { header.rank < header.size }
+    requires at { place.at ≤ byte_limit header.size }
+    requires room { room ≡ byte_limit header.size - place.at }
+    requires len { HasLen step (min behind room) }
+    ensures exact { (given : List Call) → IsPlace place given → Says (coming_seen result) ended header given behind room (seen step.entry) }
+    ensures within { IsWithin result place header ended behind }
 {
     match step {
         Step::Bad(cause) => malformed(place.at, cause),
         Step::More => {
             if room < behind {
                 bound(place.at, Limit::Bytes)
-            } else {
+            } else if ended {
                 malformed(place.at, Cause::Truncated)
-            }
-        }
-        Step::Whole { call, len } => {
-            if place.stuck {
-                malformed(place.at, Cause::AfterUnreturned)
-            } else if place.number < RUN_CALLS / size {
-                Arrival::Next(call, len)
             } else {
-                bound(place.at, Limit::Calls)
+                Arrival::Short
             }
         }
+        Step::Whole { call, len: _ } => judge_call(header, place, call),
         Step::End { calls, len: _ } => {
             if calls != place.number {
                 malformed(place.at, Cause::EndCount)
-            } else if behind == 10 {
+            } else if behind > 10 {
+                malformed(place.at + 10, Cause::AfterEnd)
+            } else if ended {
                 Arrival::Done
             } else {
-                malformed(place.at + 10, Cause::AfterEnd)
+                Arrival::Short
             }
         }
     }
@@ -92,7 +161,7 @@ fn at_hand(size: u32, at: u64, bytes: &[u8]) -> (&[u8], usize)
     requires { 0 < size }
     ensures room { result.1 ≡ byte_limit size - at }
     ensures bytes { result.0.now ≡ take (byte_limit size - at) bytes.now }
-    ensures few { length result.0.now ≤ result.1 }
+    ensures few { length result.0.now ≡ min (length bytes.now) result.1 }
 {
     let room = u64::from(byte_limit_of(size)).saturating_sub(at) as usize;
     if room < bytes.len() {
@@ -103,41 +172,55 @@ fn at_hand(size: u32, at: u64, bytes: &[u8]) -> (&[u8], usize)
     }
 }
 
-/// What comes at a place, where these bytes stand.
-fn arrival_at(version: u8, size: u32, place: StreamPlace, bytes: &[u8]) -> Arrival<'_>
-    requires size { 0 < size }
-    requires small { place.at < 2 ^ 32 }
-    ensures exact { coming_seen result ≡ coming version size place bytes.now }
-    ensures within { IsWithin result place (byte_limit size - place.at) }
+/// What comes at a place, where these bytes stand. `ended` says that no more will come.
+pub(crate) fn arrival_at(
+    header: Header,
+    place: StreamPlace,
+    bytes: &[u8],
+    ended: bool,
+) -> Arrival<'_>
+    requires size { (0 < header.size) × (header.size ≤ MOST_RANKS) }
+    requires rank { header.rank < header.size }
+    requires at { place.at ≤ byte_limit header.size }
+    ensures exact { (given : List Call) → IsPlace place given
+        → Says (coming_seen result) ended header given (length bytes.now) (room_behind header given) (front header.version (take (room_behind header given) bytes.now)) }
+    ensures within { IsWithin result place header ended (length bytes.now) }
 {
-    let (hand, room) = at_hand(size, place.at, bytes);
-    let step = read_record(version, hand);
-    arrival_of(size, place, bytes.len(), room, step)
+    let (hand, room) = at_hand(header.size, place.at, bytes);
+    let step = read_record(header.version, hand);
+    arrival_of(header, place, bytes.len(), room, ended, step)
 }
 
-/// One call, or the end, or why the stream is refused. At a call the place moves behind its record.
-pub fn advance(
-    alloc: Global,
-    version: u8,
-    size: u32,
-    place: &mut StreamPlace,
-    bytes: &[u8],
-) -> Result<Option<Call>, StreamFault>
-    requires size { 0 < size }
-    requires within { place.old.at ≤ byte_limit size }
-    ensures exact { Comes version size place.old bytes.now place.new result }
-    ensures within { place.new.at ≤ byte_limit size }
-    ensures behind { IsBehind place.old place.new result }
+/// The place behind the record of this call.
+pub(crate) fn place_behind(place: StreamPlace, view: &CallView<'_>) -> StreamPlace
+    requires at { place.at ≤ 536870912 }
+    requires number { place.number < RUN_CALLS }
+    requires next { place.next_handle ≤ FIRST_MADE + place.number }
+    ensures place { (given : List Call) → IsPlace place given → IsPlace result (given ++ call_at view.now.kind view.now.returned view.now.payload.now ∷ []) }
+    ensures at { result.at ≡ place.at + (6 + length view.now.payload.now) }
+    ensures number { result.number ≡ place.number + 1 }
+    ensures next { result.next_handle ≤ FIRST_MADE + result.number }
 {
-    match arrival_at(version, size, *place, bytes) {
-        Arrival::Stop(fault) => Err(fault),
-        Arrival::Done => Ok(None),
-        Arrival::Next(view, len) => {
-            let call = view.to_call(alloc)?;
-            place.at += u64::from(len);
-            place.number += 1;
-            place.stuck = !call.returned;
-            Ok(Some(call))
-        }
+    StreamPlace {
+        at: place.at + length_of(view.kind, view.returned, view.payload),
+        number: place.number + 1,
+        next_handle: place.next_handle + handles_made(view.made()),
+        stuck: stuck_behind(place.stuck, view.returned),
     }
+}
+
+/// The length of the record of a call with this payload.
+fn length_of(kind: Kind, returned: bool, payload: &[u8]) -> u64
+    requires good { whole kind returned payload.now ≡ Ok tt }
+    ensures record { result ≡ record_length (call_at kind returned payload.now) }
+    ensures payload { result ≡ 6 + length payload.now }
+{
+    6 + payload.len() as u64
+}
+
+/// Whether a call behind one that returned, or not, comes behind one that didn't.
+fn stuck_behind(stuck: bool, returned: bool) -> bool
+    ensures { result ≡ (stuck || not returned) }
+{
+    stuck || !returned
 }

@@ -1,21 +1,20 @@
 //! Judging a header.
 
-ghost use Rattle.std.specs.Prelude.{◌≡◌, ◌+◌, ◌≤◌, length, drop, slice_index};
+ghost use Rattle.std.specs.Prelude.{◌≡◌, ◌+◌, ◌≤◌, length, drop, slice_index, IfSome, IfErr, Some, None};
 ghost use Rattle.must_format.specs.Decoding.{u32_at, i32_at};
-ghost use Rattle.must_codec.specs.Views.{HeaderIs};
+ghost use Rattle.must_format.specs.Stream.{expected_fault, is_version as is_version_of};
+ghost use Rattle.must_codec.specs.Views.{HeaderIs, IsRefusal};
 
-use must_format::{Cause, Header, StreamFault};
+use must_format::{Cause, Expect, Header, LEAST_TAG_UB, MOST_RANKS, StreamFault};
 
 /// `MTRC` as a number.
 const MARK: u32 = 1_297_371_715;
 
-/// The greatest tag that each MPI library grants (MPI 3.1 section 8.1.2).
-const LEAST_TAG_UB: i32 = 32_767;
-
-/// The header of a stream of this rank among so many, or what is wrong with it first.
-#[tactic(auto, using(std::proofs::lemmas::Grind::common_steps))]
-pub fn judge_header(rank: u32, size: u32, bytes: &[u8]) -> Result<Header, StreamFault>
-    ensures { HeaderIs rank size bytes.now result }
+/// The header of a stream of whom is expected, or what is wrong with it first.
+#[tactic(auto, using(std::proofs::lemmas::Grind::common_steps), unfolding(must_format::specs::Stream::header_fault))]
+pub(crate) fn judge_header(expect: Option<Expect>, bytes: &[u8]) -> Result<Header, StreamFault>
+    ensures exact { HeaderIs expect bytes.now result }
+    ensures refusal { IfErr result IsRefusal }
 {
     if bytes.len() < 17 {
         return Err(malformed(0, Cause::Truncated));
@@ -29,19 +28,60 @@ pub fn judge_header(rank: u32, size: u32, bytes: &[u8]) -> Result<Header, Stream
     if unsigned_at(bytes, 0) != MARK {
         return Err(malformed(0, Cause::Magic));
     }
-    if header.version != 1 {
+    if !is_version(header.version) {
         return Err(malformed(4, Cause::Version));
     }
-    if header.rank != rank {
-        return Err(malformed(5, Cause::WrongRank));
-    }
-    if header.size != size {
-        return Err(malformed(9, Cause::WrongSize));
+    if let Some(fault) = unexpected(expect, header.rank, header.size) {
+        return Err(fault);
     }
     if header.tag_ub < LEAST_TAG_UB {
         return Err(malformed(13, Cause::TagUb));
     }
     Ok(header)
+}
+
+fn is_version(version: u8) -> bool
+    ensures { result ≡ is_version_of version }
+{
+    version == 1 || version == 2
+}
+
+/// What is wrong with this rank and size first.
+fn unexpected(expect: Option<Expect>, rank: u32, size: u32) -> Option<StreamFault>
+    ensures exact { result ≡ expected_fault expect rank size }
+    ensures refusal { IfSome result IsRefusal }
+{
+    match expect {
+        Some(expect) => not_expected(expect, rank, size),
+        None => no_run(rank, size),
+    }
+}
+
+fn not_expected(expect: Expect, rank: u32, size: u32) -> Option<StreamFault>
+    ensures exact { result ≡ expected_fault (Some expect) rank size }
+    ensures refusal { IfSome result IsRefusal }
+{
+    if rank != expect.rank {
+        Some(malformed(5, Cause::WrongRank))
+    } else if size != expect.size {
+        Some(malformed(9, Cause::WrongSize))
+    } else {
+        None
+    }
+}
+
+/// A run has 1 to 1024 ranks.
+fn no_run(rank: u32, size: u32) -> Option<StreamFault>
+    ensures exact { result ≡ expected_fault None rank size }
+    ensures refusal { IfSome result IsRefusal }
+{
+    if size == 0 || size > MOST_RANKS {
+        Some(malformed(9, Cause::WrongSize))
+    } else if rank >= size {
+        Some(malformed(5, Cause::WrongRank))
+    } else {
+        None
+    }
 }
 
 /// The byte at an offset.

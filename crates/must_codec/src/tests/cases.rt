@@ -6,6 +6,11 @@ pub const HEADER: &[u8] = &[
     0x4d, 0x54, 0x52, 0x43, 1, 0, 0, 0, 0, 0, 0, 0, 1, 0, 0, 0x7f, 0xff,
 ];
 
+/// The header of version 2.
+pub const HEADER_2: &[u8] = &[
+    0x4d, 0x54, 0x52, 0x43, 2, 0, 0, 0, 0, 0, 0, 0, 1, 0, 0, 0x7f, 0xff,
+];
+
 pub const INIT: &[u8] = &[1, 0, 0, 0, 0, 0];
 
 pub const STUCK_INIT: &[u8] = &[1, 1, 0, 0, 0, 0];
@@ -45,6 +50,11 @@ pub const COMM_SPLIT: &[u8] = &[
     0, 0,
 ];
 
+/// `CommSplit` of the world into 64 with rank 0.
+pub const COMM_SPLIT_64: &[u8] = &[
+    49, 0, 0, 0, 0, 24, 0, 0, 0, 1, 0, 0, 0, 0, 0, 0, 0, 0, 0, 0, 0, 64, 0, 0, 0, 1, 0, 0, 0, 0,
+];
+
 /// `TypeStruct` of an int at 0 and a char at -8, into 66.
 pub const TYPE_STRUCT: &[u8] = &[
     33, 0, 0, 0, 0, 40, 0, 0, 0, 2, 0, 0, 0, 1, 0, 0, 0, 0, 0, 0, 0, 0, 0, 0, 0, 7, 0, 0, 0, 1,
@@ -62,6 +72,29 @@ pub const REDUCE: &[u8] = &[
     62, 0, 0, 0, 0, 37, 0, 0, 0, 0, 0, 0, 0, 16, 0, 0, 0, 0, 0, 0, 0, 32, 0, 0, 0, 0, 1, 0, 0, 0,
     7, 0, 0, 0, 3, 0, 0, 0, 0, 0, 0, 0, 1,
 ];
+
+/// `CommSplit` of the world with no color, into no communicator, without members.
+pub const SPLIT_INTO_NONE: &[u8] = &[
+    49, 0, 0, 0, 0, 20, 0, 0, 0, 1, 255, 255, 255, 255, 0, 0, 0, 0, 0, 0, 0, 0, 0, 0, 0, 0,
+];
+
+/// `CommDup` of the world without members, up to the last byte of the handle.
+pub const DUP: &[u8] = &[48, 0, 0, 0, 0, 12, 0, 0, 0, 1, 0, 0, 0];
+
+/// `CommDup` of the world into 64, up to its one member.
+pub const DUP_OF_1: &[u8] = &[48, 0, 0, 0, 0, 16, 0, 0, 0, 1, 0, 0, 0, 64];
+
+/// `CommDup` of the world into 64, up to its two members.
+pub const DUP_OF_2: &[u8] = &[48, 0, 0, 0, 0, 20, 0, 0, 0, 1, 0, 0, 0, 64];
+
+/// `CommGroup` of the world, up to the last byte of the handle.
+pub const COMM_GROUP: &[u8] = &[41, 0, 0, 0, 0, 8, 0, 0, 0, 1, 0, 0, 0];
+
+/// `Ibarrier` on the world of request 64.
+pub const IBARRIER: &[u8] = &[73, 0, 0, 0, 0, 8, 0, 0, 0, 1, 0, 0, 0, 64];
+
+/// `Startall` of request 64.
+pub const STARTALL: &[u8] = &[72, 0, 0, 0, 0, 8, 0, 0, 0, 1, 0, 0, 0, 64];
 
 pub const END_0: &[u8] = &[0, 0, 0, 0, 0, 4, 0, 0, 0, 0];
 
@@ -131,6 +164,27 @@ pub const ACCEPTED: &[Case] = &[
         refused: None,
     },
     Case {
+        name: "kinds_of_version_2",
+        parts: &[HEADER_2, IBARRIER, STARTALL, END_2],
+        calls: 2,
+        refused: None,
+    },
+    Case {
+        name: "none_and_the_empty_group_take_no_number",
+        parts: &[
+            HEADER,
+            SPLIT_INTO_NONE,
+            COMM_GROUP,
+            &[1],
+            COMM_SPLIT_64,
+            COMM_GROUP,
+            &[65],
+            END_4,
+        ],
+        calls: 4,
+        refused: None,
+    },
+    Case {
         name: "no_call",
         parts: &[HEADER, END_0],
         calls: 0,
@@ -177,8 +231,8 @@ pub const HEADERS: &[Case] = &[
         refused: Some((0, Cause::Magic)),
     },
     Case {
-        name: "version_2",
-        parts: &[&[0x4d, 0x54, 0x52, 0x43, 2], &[9; 12]],
+        name: "version_3",
+        parts: &[&[0x4d, 0x54, 0x52, 0x43, 3], &[9; 12]],
         calls: 0,
         refused: Some((4, Cause::Version)),
     },
@@ -332,6 +386,82 @@ pub const RECORDS: &[Case] = &[
         parts: &[HEADER, INIT, FINALIZE, END_2, &[0]],
         calls: 2,
         refused: Some((39, Cause::AfterEnd)),
+    },
+];
+
+/// Streams with a handle or members that can't be, in a run of one rank.
+pub const MADE: &[Case] = &[
+    Case {
+        name: "first_handle_is_65",
+        parts: &[HEADER, INIT, COMM_GROUP, &[65], END_2],
+        calls: 1,
+        refused: Some((23, Cause::HandleNumber)),
+    },
+    Case {
+        name: "handle_again",
+        parts: &[HEADER, ISEND, ISEND, END_2],
+        calls: 1,
+        refused: Some((55, Cause::HandleNumber)),
+    },
+    Case {
+        name: "handle_again_in_another_class",
+        parts: &[HEADER, ISEND, COMM_GROUP, &[64], END_2],
+        calls: 1,
+        refused: Some((55, Cause::HandleNumber)),
+    },
+    Case {
+        name: "group_of_number_0",
+        parts: &[HEADER, COMM_GROUP, &[0], END_1],
+        calls: 0,
+        refused: Some((17, Cause::HandleNumber)),
+    },
+    Case {
+        name: "copy_into_no_communicator",
+        parts: &[HEADER, DUP, &[0], &[0; 4], END_1],
+        calls: 0,
+        refused: Some((17, Cause::HandleNumber)),
+    },
+    Case {
+        name: "none_with_a_member",
+        parts: &[
+            HEADER,
+            INIT,
+            &[49, 0, 0, 0, 0, 24, 0, 0, 0, 1],
+            &[0; 12],
+            &[0, 0, 0, 1, 0, 0, 0, 0],
+        ],
+        calls: 1,
+        refused: Some((23, Cause::Members)),
+    },
+    Case {
+        name: "no_member",
+        parts: &[HEADER, DUP, &[64], &[0; 4], END_1],
+        calls: 0,
+        refused: Some((17, Cause::Members)),
+    },
+    Case {
+        name: "member_that_is_no_rank",
+        parts: &[HEADER, DUP_OF_1, &[0, 0, 0, 1, 0, 0, 0, 1], END_1],
+        calls: 0,
+        refused: Some((17, Cause::Members)),
+    },
+    Case {
+        name: "member_twice",
+        parts: &[HEADER, DUP_OF_2, &[0, 0, 0, 2], &[0; 8], END_1],
+        calls: 0,
+        refused: Some((17, Cause::Members)),
+    },
+    Case {
+        name: "another_handle_and_other_members",
+        parts: &[HEADER, ISEND, DUP_OF_1, &[0, 0, 0, 1, 0, 0, 0, 1], END_2],
+        calls: 1,
+        refused: Some((55, Cause::HandleNumber)),
+    },
+    Case {
+        name: "another_handle_behind_a_call_that_did_not_return",
+        parts: &[HEADER, STUCK_INIT, COMM_GROUP, &[65], END_2],
+        calls: 1,
+        refused: Some((23, Cause::AfterUnreturned)),
     },
 ];
 
