@@ -1,11 +1,12 @@
 -- An element that goes into a list at its place.
-use Rattle.std.proofs.Common.{◌≡◌, ℕ, zero, suc, ◌+◌, ◌<◌, ◌≤◌, List, [], ◌∷◌, ◌++◌, length, get_or, take, drop, refl, sym, ap, subst, ◌∙◌, inl, inr, arith, Ordering, Less, Equal, Greater}
+use Rattle.std.proofs.Common.{◌≡◌, ℕ, zero, suc, ◌+◌, ◌<◌, ◌≤◌, List, [], ◌∷◌, length, get_or, refl, sym, ap, subst, ◌∙◌, inl, inr, arith, Ordering, Less, Greater}
 use Rattle.std.specs.Prelude.{◌⊎◌, ◌↔◌}
 use Rattle.std.specs.List.{AllByRecursion, insert}
+use Rattle.std.specs.List.Sorted.{IsStrictlySortedBy}
 use Rattle.std.specs.Ordering.{ordering_reverse}
 use Rattle.std.specs.Cmp.{IsTotalOrder}
 use Rattle.std.proofs.lemmas.Bool.{cases_order}
-use Rattle.must_find.specs.Listing.{Has, Rises}
+use Rattle.must_base.specs.Listing.{Has, Rises}
 
 get_any : {X : Type 0} (xs : List X) (k : ℕ) (d e : X) → k < length xs → get_or xs k d ≡ get_or xs k e
 get_any [] k d e h = absurd (omega arith)
@@ -23,6 +24,7 @@ all_at P (x ∷ xs) zero d all h = all.0
 all_at P (x ∷ xs) (suc k) d all h = all_at P xs k d all.1 (omega arith)
 
 rises_at : {X : Type 0} (order : X → X → Ordering) (xs : List X) (i j : ℕ) (d : X) → Rises order xs → i < j → j < length xs → order (get_or xs i d) (get_or xs j d) ≡ Less
+unfolding IsStrictlySortedBy
 rises_at order [] i j d r h w = absurd (omega arith)
 rises_at order (x ∷ xs) i zero d r h w = absurd (omega arith)
 rises_at order (x ∷ xs) zero (suc j) d r h w = all_at (λ y. order x y ≡ Less) xs j d r.0 (omega arith)
@@ -64,6 +66,7 @@ all_from P (x ∷ xs) all = (all 0 x (omega arith), all_from P xs (λ k d h. all
 pub rises_insert : {X : Type 0} (order : X → X → Ordering) (xs : List X) (i : ℕ) (f : X) → Rises order xs
     → ((k : ℕ) (d : X) → k < i → k < length xs → order (get_or xs k d) f ≡ Less)
     → ((k : ℕ) (d : X) → i ≤ k → k < length xs → order f (get_or xs k d) ≡ Less) → Rises order (insert xs i f)
+unfolding IsStrictlySortedBy
 rises_insert order [] zero f r before after = (tt, tt)
 rises_insert order [] (suc i) f r before after = (tt, tt)
 rises_insert order (x ∷ xs) zero f r before after = (all_from (λ y. order f y ≡ Less) (x ∷ xs) (λ k d h. after k d (omega arith) h), r)

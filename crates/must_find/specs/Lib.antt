@@ -1,8 +1,7 @@
 pub mod Rules
 pub mod RuleSet
-pub mod Listing
 pub mod Order
+pub mod Merged
 pub mod Report
-pub mod ListLaws
 pub mod RuleLaws
 pub mod OrderLaws

@@ -1,7 +1,7 @@
 -- The orders of findings are orders.
 use Rattle.std.specs.Cmp.{IsTotalOrder}
 use Rattle.std.proofs.Common.{◌≡◌, ℕ, ℤ, refl, ap, Ordering, Less, Equal, Greater, Option, Some, None}
-use Rattle.std.specs.Ordering.{nat_cmp, int_cmp, on, then_cmp, ordering_then}
+use Rattle.std.specs.Ordering.{nat_cmp, ordering_then}
 use Rattle.std.specs.FinMap.{nat_cmp-IsAntisymmetric, int_cmp-IsAntisymmetric}
 use Rattle.must_find.specs.declared.rule.Rule.{Rule}
 use Rattle.must_find.specs.RuleLaws.{rule_same}

@@ -1,5 +1,5 @@
 -- The severity of a rule in a set.
-use Rattle.std.specs.Prelude.{ℕ, List, slice_index_or}
+use Rattle.std.specs.Prelude.{List, slice_index_or}
 use Rattle.must_find.specs.declared.rule.Rule.{Rule}
 use Rattle.must_find.specs.declared.severity.Severity.{Severity}
 use Rattle.must_find.specs.declared.severity.Severity.TheVariants.{Off}

@@ -1,11 +1,12 @@
 //! Findings in order.
 
-ghost use Rattle.std.specs.Prelude.{◌≡◌, ◌≤◌, ◌<◌, ◌⊎◌, ◌↔◌, [], length, MatchOption, OnOk, OnErr, slice_get};
+ghost use Rattle.std.specs.Prelude.{◌≡◌, ◌≤◌, ◌<◌, ◌⊎◌, ◌↔◌, [], length, MatchOption, IfOk, OnOk, OnErr, slice_get};
 ghost use Rattle.std.specs.List.{insert};
 ghost use Rattle.std.specs.Option.{option_copied};
 ghost use Rattle.must_find.specs.declared.finding.Finding.{Finding};
-ghost use Rattle.must_find.specs.Listing.{Has, Rises};
+ghost use Rattle.must_base.specs.Listing.{Has, Rises};
 ghost use Rattle.must_find.specs.Order.{by_all};
+ghost use Rattle.must_find.specs.Merged.{IsMerged};
 
 use crate::finding::Finding;
 use must_base::NoMemory;
@@ -22,7 +23,7 @@ pub struct Findings {
 impl Model for Findings {
     ghost use Rattle.std.specs.Prelude.{List};
     ghost use Rattle.must_find.specs.declared.finding.Finding.{Finding};
-    ghost use Rattle.must_find.specs.Listing.{Rises};
+    ghost use Rattle.must_base.specs.Listing.{Rises};
     ghost use Rattle.must_find.specs.Order.{by_all};
 
     ghost Value = { List Finding };
@@ -50,6 +51,38 @@ fn gap(items: &[Finding], f: &Finding) -> Option<usize>
         middle = low + (high - low) / 2;
     }
     Some(low)
+}
+
+/// The findings of two lists that rise, in one list that rises, each once. It goes through both lists once.
+fn merged(alloc: Global, xs: &[Finding], ys: &[Finding]) -> Result<Vec<Finding>, NoMemory>
+    requires { Rises by_all xs.now × Rises by_all ys.now }
+    ensures { IfOk result (λ out. IsMerged by_all xs.now ys.now out.items) }
+{
+    let mut out = Vec::new(alloc);
+    let mut i = 0;
+    let mut j = 0;
+    while i < xs.len() && j < ys.len() {
+        match xs[i].cmp(&ys[j]) {
+            Ordering::Less => {
+                out.push(xs[i])?;
+                i += 1;
+            }
+            Ordering::Greater => {
+                out.push(ys[j])?;
+                j += 1;
+            }
+            Ordering::Equal => {
+                out.push(xs[i])?;
+                i += 1;
+                j += 1;
+            }
+        }
+    }
+    let (_, rest_of_xs) = xs.split_at(i);
+    let (_, rest_of_ys) = ys.split_at(j);
+    out.extend_from_slice(rest_of_xs)?;
+    out.extend_from_slice(rest_of_ys)?;
+    Ok(out)
 }
 
 impl Findings {
@@ -96,5 +129,14 @@ impl Findings {
                 Ok(())
             }
         }
+    }
+
+    /// Puts in the findings of another list, each once, in time linear in both.
+    pub fn merge(&mut self, other: &Findings) -> Result<(), NoMemory>
+        ensures ok { OnOk result ((x : Finding) → Has self.new x ↔ (Has self.old x ⊎ Has other.now x)) }
+        ensures err { OnErr result (self.new ≡ self.old) }
+    {
+        self.items = merged(*self.items.allocator(), &self.items, &other.items)?;
+        Ok(())
     }
 }

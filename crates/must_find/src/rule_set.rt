@@ -1,6 +1,7 @@
 //! The severity of each rule.
 
-ghost use Rattle.std.specs.Prelude.{◌≡◌};
+ghost use Rattle.std.specs.Prelude.{◌≡◌, ◌≢◌};
+ghost use Rattle.must_find.specs.declared.rule.Rule.{Rule};
 ghost use Rattle.must_find.specs.Rules.{usual_severities};
 ghost use Rattle.must_find.specs.RuleSet.{severity_in};
 
@@ -47,5 +48,13 @@ impl RuleSet {
             Some(severity) => *severity,
             None => Severity::Off,
         }
+    }
+
+    /// Gives a rule this severity, and leaves those of the others.
+    pub fn set(&mut self, rule: Rule, severity: Severity)
+        ensures this { severity_in self.new rule ≡ severity }
+        ensures others { (other : Rule) → other ≢ rule → severity_in self.new other ≡ severity_in self.old other }
+    {
+        self.severities[usize::from(rule.place())] = severity;
     }
 }

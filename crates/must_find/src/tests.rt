@@ -2,6 +2,7 @@
 
 use super::*;
 use must_call::Place;
+use std::alloc::Global;
 use std::cmp::Ordering;
 use std::process::Abort;
 use std::test::Fail;
@@ -68,6 +69,22 @@ fn usual_severities(rt: HostRuntime) {
     }
 }
 
+#[test]
+fn one_severity(rt: HostRuntime) {
+    let mut rules = RuleSet::usual();
+    rules.set(Rule::X1, Severity::Warning);
+    rules.set(Rule::A1, Severity::Off);
+    for (rule, want) in [
+        (Rule::X1, Severity::Warning),
+        (Rule::L5, Severity::Warning),
+        (Rule::A1, Severity::Off),
+        (Rule::A2, Severity::Error),
+        (Rule::I3, Severity::Error),
+    ] {
+        assert_eq!(rt; rules.get(rule), want, "{}", rule.code());
+    }
+}
+
 fn has(rt: &impl Abort, findings: &Findings, want: &[Finding]) {
     assert_eq!(rt; findings.len(), want.len());
     assert_eq!(rt; findings.as_slice(), want);
@@ -100,5 +117,32 @@ fn findings_in_order(rt: HostRuntime) -> Result<(), Fail> {
     assert_eq!(rt; order[2].cmp(&order[3]), Ordering::Less);
     assert_eq!(rt; order[3].cmp(&order[3]), Ordering::Equal);
     assert_eq!(rt; order[4].cmp(&order[3]), Ordering::Greater);
+    Ok(())
+}
+
+fn all_of(alloc: Global, items: &[Finding]) -> Result<Findings, Fail> {
+    let mut findings = Findings::new(alloc);
+    for item in items {
+        findings.add(*item)?;
+    }
+    Ok(findings)
+}
+
+#[test]
+fn findings_merged(rt: HostRuntime) -> Result<(), Fail> {
+    let first = finding(0, 9, Rule::X1, 3);
+    let second = finding(1, 1, Rule::I1, 1);
+    let third = finding(1, 1, Rule::A1, 0);
+    let fourth = finding(1, 2, Rule::I1, 0);
+    let odd = all_of(rt.alloc(), &[first, third])?;
+    let even = all_of(rt.alloc(), &[second, third, fourth])?;
+    let mut both = Findings::new(rt.alloc());
+    both.merge(&odd)?;
+    has(&rt, &both, &[first, third]);
+    both.merge(&even)?;
+    has(&rt, &both, &[first, second, third, fourth]);
+    both.merge(&odd)?;
+    has(&rt, &both, &[first, second, third, fourth]);
+    order_law();
     Ok(())
 }

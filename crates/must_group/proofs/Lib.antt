@@ -6,3 +6,4 @@ pub mod OrderLaws
 pub mod Ordered
 pub mod PositionLaws
 pub mod SetLaws
+pub mod Placed

@@ -243,7 +243,7 @@ small_position (pos m) fits e = omega (arith, fits.sfits)
 small_position (negsuc m) fits e = absurd (cc)
 
 -- a bad place comes after no more places than there are positions that an i32 names
-all_below : (xs : List ℕ) (n : ℕ) → All (λ x. x < n) xs → (q : ℕ) → list_any (nat_eq q) xs ≡ true → q < n
+pub all_below : (xs : List ℕ) (n : ℕ) → All (λ x. x < n) xs → (q : ℕ) → list_any (nat_eq q) xs ≡ true → q < n
 all_below xs n h q here =
     let some = Any-from_list_any (nat_eq q) xs here in
     let at : get_or xs some.0 0 ≡ some.1 = get_or_default xs some.0 0 some.1 some.2 ∙ some.3 in

@@ -1,12 +1,12 @@
 //! Groups.
 
-ghost use Rattle.std.specs.Prelude.{◌≡◌, ℕ, ℤ, IfOk, OnOk, OnErr, length, nat_eq, None, [], ◌∷◌, ◌++◌, false};
+ghost use Rattle.std.specs.Prelude.{◌≡◌, ℕ, ℤ, IfOk, OnOk, OnErr, length, nat_eq, None, [], ◌∷◌, ◌++◌, false, position};
 ghost use Rattle.std.specs.List.{IsDistinct};
 ghost use Rattle.std.specs.Set.{is_member};
 ghost use Rattle.must_group.specs.Groups.{union, intersection, difference, first_bad, incl, excl};
 
 use crate::lookup::Lookup;
-use crate::positions::first_bad_place;
+use crate::positions::{first_bad_place, is_behind, place_in, place_in_rising};
 use must_base::NoMemory;
 use std::alloc::Global;
 use std::marker::Model;
@@ -15,17 +15,29 @@ use std::marker::Model;
 #[derive(Drop)]
 pub struct Group {
     ranks: Vec<u32>,
+    /// The ranks rise, so that a rank is found in logarithmic time.
+    rises: bool,
 }
 
 impl Model for Group {
-    ghost use Rattle.std.specs.Prelude.{List, ℕ, nat_eq};
+    ghost use Rattle.std.specs.Prelude.{◌≡◌, List, ℕ, nat_eq, true};
     ghost use Rattle.std.specs.List.{IsDistinct};
+    ghost use Rattle.std.specs.List.Sorted.{IsNonDecreasing};
 
     ghost Value = { List ℕ };
 
     ghost view = { λ g. g.ranks.items };
 
-    ghost invariant = { λ g. IsDistinct nat_eq g.ranks.items };
+    ghost invariant = { λ g. IsDistinct nat_eq g.ranks.items × (g.rises ≡ true → IsNonDecreasing g.ranks.items) };
+}
+
+/// The group with these world ranks.
+fn listed(ranks: Vec<u32>) -> Group
+    requires { IsDistinct nat_eq ranks.items }
+    ensures { result ≡ ranks.items }
+{
+    let rises = ranks.is_sorted();
+    Group { ranks, rises }
 }
 
 impl Group {
@@ -35,16 +47,14 @@ impl Group {
         ensures { IfOk result (λ g. g ≡ ranks.now) }
     {
         let ranks = ranks.to_vec(alloc)?;
-        Ok(Group { ranks })
+        Ok(listed(ranks))
     }
 
     /// The group without members.
     pub(crate) fn empty(alloc: Global) -> Group
         ensures { result ≡ [] }
     {
-        Group {
-            ranks: Vec::new(alloc),
-        }
+        listed(Vec::new(alloc))
     }
 
     /// One more member behind the others.
@@ -53,7 +63,9 @@ impl Group {
         ensures ok { OnOk result (self.new ≡ self.old ++ rank ∷ []) }
         ensures err { OnErr result (self.new ≡ self.old) }
     {
+        let rises = self.rises && is_behind(&self.ranks, rank);
         self.ranks.push(rank)?;
+        self.rises = rises;
         Ok(())
     }
 
@@ -63,6 +75,19 @@ impl Group {
         ensures distinct { IsDistinct nat_eq self.now }
     {
         self.ranks.as_slice()
+    }
+
+    /// The position of the process with this world rank, if it is a member. It takes no memory.
+    pub fn position(&self, rank: u32) -> Option<u32>
+        ensures { result ≡ position (λ member. nat_eq member rank) self.now }
+    {
+        let place = if self.rises {
+            place_in_rising(&self.ranks, rank)
+        } else {
+            place_in(&self.ranks, rank)
+        };
+        let place = place?;
+        Some(place as u32)
     }
 
     /// The place of the first listed rank that names no position of the group or stands in the list before, if there is
@@ -81,7 +106,7 @@ impl Group {
         let added = other.difference(alloc, self)?;
         let mut ranks = self.ranks.to_vec(alloc)?;
         ranks.extend_from_slice(&added.ranks)?;
-        Ok(Group { ranks })
+        Ok(listed(ranks))
     }
 
     /// The members that are also in the other group, in this group's order (`MPI_Group_intersection`).
@@ -95,7 +120,7 @@ impl Group {
             .copied()
             .filter(|rank| others.contains(*rank));
         let ranks = shared.collect(alloc)?;
-        Ok(Group { ranks })
+        Ok(listed(ranks))
     }
 
     /// The members that are not in the other group, in this group's order (`MPI_Group_difference`).
@@ -109,7 +134,7 @@ impl Group {
             .copied()
             .filter(|rank| !others.contains(*rank));
         let ranks = own.collect(alloc)?;
-        Ok(Group { ranks })
+        Ok(listed(ranks))
     }
 
     /// The members at the listed positions, in the list's order (`MPI_Group_incl`).
@@ -121,7 +146,7 @@ impl Group {
         for rank in ranks {
             chosen.push(self.ranks[*rank as usize])?;
         }
-        Ok(Group { ranks: chosen })
+        Ok(listed(chosen))
     }
 
     /// The members whose position is not listed, in this group's order (`MPI_Group_excl`).

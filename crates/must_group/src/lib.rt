@@ -7,6 +7,7 @@
 //!
 //! - `Group::of` and `Group::ranks` are linear and constant, `union`, `intersection`, `difference` and `excl` take n log n, and
 //!   `incl` is linear in the list of ranks.
+//! - `Group::position` is logarithmic where the ranks rise, as those of all processes do, and else linear in the group.
 //! - `Group::valid_ranks` is linear in the list of ranks where the group has at most 1024 members, as each group of a run has. For
 //!   a larger group it is quadratic in the place that it finds. It takes no memory.
 //! - `split` takes n log n, and `Groups::of` is logarithmic.
@@ -26,5 +27,5 @@ mod tests;
 
 pub use fault::NameFault;
 pub use group::Group;
-pub use name::CommName;
+pub use name::{CommName, Step};
 pub use splits::{Groups, SplitRow, split};

@@ -21,7 +21,7 @@ const LONGEST_PATH: usize = 32;
 
 /// One step from a communicator to one that a collective call on it made.
 #[derive(Clone, Copy, PartialEq, Eq, PartialOrd, Ord)]
-pub(crate) struct Step {
+pub struct Step {
     /// The number of the making call among the collectives of the communicator.
     pub number: u32,
     /// Tells apart the communicators of one call: 0 for a duplicate, the color of a split, the first member of a created one.

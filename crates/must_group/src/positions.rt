@@ -1,6 +1,8 @@
 //! Positions in a group, as a list names them.
 
-ghost use Rattle.std.specs.Prelude.{◌≡◌, ◌≤◌, ◌<◌, ◌^◌, IfSome};
+ghost use Rattle.std.specs.Prelude.{◌≡◌, ◌≤◌, ◌<◌, ◌^◌, ◌∷◌, ◌++◌, [], IsTrue, IfSome, nat_eq, position};
+ghost use Rattle.std.specs.List.{IsDistinct};
+ghost use Rattle.std.specs.List.Sorted.{IsNonDecreasing};
 ghost use Rattle.must_group.specs.Groups.{position_of, first_bad};
 
 /// For how many members a table of marks stands on the stack.
@@ -64,5 +66,39 @@ pub(crate) fn first_bad_place(members: usize, listed: &[i32]) -> Option<usize>
         first_by_marks(members, listed)
     } else {
         first_by_scan(members, listed)
+    }
+}
+
+/// The place of a rank in a list that rises.
+pub(crate) fn place_in_rising(ranks: &[u32], rank: u32) -> Option<usize>
+    requires { IsDistinct nat_eq ranks.now × IsNonDecreasing ranks.now }
+    ensures place { result ≡ position (λ member. nat_eq member rank) ranks.now }
+    ensures small { IfSome result (λ place. place < 2 ^ 32) }
+{
+    ranks.binary_search(&rank).ok()
+}
+
+fn first_place(ranks: &[u32], rank: u32) -> Option<usize>
+    ensures { result ≡ position (λ member. nat_eq member rank) ranks.now }
+{
+    ranks.iter().position(|member| *member == rank)
+}
+
+/// The place of a rank in a list in any order.
+pub(crate) fn place_in(ranks: &[u32], rank: u32) -> Option<usize>
+    requires { IsDistinct nat_eq ranks.now }
+    ensures place { result ≡ position (λ member. nat_eq member rank) ranks.now }
+    ensures small { IfSome result (λ place. place < 2 ^ 32) }
+{
+    first_place(ranks, rank)
+}
+
+/// The rank is above the last of a list.
+pub(crate) fn is_behind(ranks: &[u32], rank: u32) -> bool
+    ensures { IsTrue result → IsNonDecreasing ranks.now → IsNonDecreasing (ranks.now ++ rank ∷ []) }
+{
+    match ranks.last() {
+        None => true,
+        Some(last) => *last < rank,
     }
 }

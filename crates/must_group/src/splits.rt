@@ -11,12 +11,10 @@ ghost use Rattle.must_group.specs.Split.{split_groups, group_at};
 
 use crate::group::Group;
 use must_base::NoMemory;
+use must_call::UNDEFINED;
 use std::alloc::Global;
 use std::collections::BTreeMap;
 use std::marker::Model;
-
-/// The color `MPI_UNDEFINED`: its processes are in no new group.
-const UNDEFINED: i32 = -1;
 
 /// What one process of the old communicator gave to a split.
 #[derive(Clone, Copy, Debug, PartialEq, Eq)]

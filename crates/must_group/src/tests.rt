@@ -59,6 +59,40 @@ fn ranks_of<'a>(group: Option<&'a Group>) -> Option<&'a [u32]> {
     }
 }
 
+fn has_positions(rt: &impl Abort, group: &Group, positions: &[(u32, Option<u32>)]) {
+    for (rank, position) in positions {
+        assert_eq!(rt; group.position(*rank), *position, "rank {rank}");
+    }
+}
+
+#[test]
+fn position_of_a_rank(rt: HostRuntime) -> Result<(), Fail> {
+    let alloc = rt.alloc();
+    let mixed = group(&rt, alloc, &[4, 2, 9])?;
+    has_positions(
+        &rt,
+        &mixed,
+        &[(4, Some(0)), (9, Some(2)), (0, None), (10, None)],
+    );
+    let world = first_ranks(&rt, alloc, 1024)?;
+    has_positions(
+        &rt,
+        &world,
+        &[(0, Some(0)), (1023, Some(1023)), (1024, None)],
+    );
+    let rows = rows_of(alloc, &[(8, 0, 1), (3, 0, 2), (5, 1, 0), (6, 1, 0)])?;
+    let groups = groups_of(&rt, alloc, &rows)?;
+    if let Some(group) = groups.of(0) {
+        has_positions(&rt, group, &[(8, Some(0)), (3, Some(1)), (5, None)]);
+    }
+    if let Some(group) = groups.of(2) {
+        has_positions(&rt, group, &[(5, Some(0)), (6, Some(1)), (8, None)]);
+    }
+    let none = group(&rt, alloc, &[])?;
+    has_positions(&rt, &none, &[(0, None)]);
+    Ok(())
+}
+
 #[test]
 fn set_operations(rt: HostRuntime) -> Result<(), Fail> {
     let alloc = rt.alloc();

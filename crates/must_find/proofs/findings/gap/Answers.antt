@@ -1,6 +1,6 @@
-use Rattle.std.proofs.Common.{◌≤◌, ◌<◌, ℕ, length, sym, subst, arith}
+use Rattle.std.proofs.Common.{◌<◌, length, sym, subst, arith}
 use Rattle.must_find.specs.declared.finding.Finding.{Finding}
-use Rattle.must_find.specs.Listing.{Has}
+use Rattle.must_base.specs.Listing.{Has}
 use Rattle.must_find.specs.Order.{by_all}
 use Rattle.must_find.specs.OrderLaws.{by_all_total, by_all_same}
 use Rattle.must_find.proofs.Inserted.{has_at, before_more, after_more, rises_insert}

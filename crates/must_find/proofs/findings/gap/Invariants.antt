@@ -1,7 +1,6 @@
 use Rattle.std.proofs.Common.{◌-◌, ◌≡◌, ◌≤◌, ◌<◌, ℕ, length, get_or}
 use Rattle.std.proofs.Common.{Less}
 use Rattle.must_find.specs.declared.finding.Finding.{Finding}
-use Rattle.must_find.specs.Listing.{Rises}
 use Rattle.must_find.specs.Order.{by_all}
 use Rattle.must_find.proofs.findings.gap.Given as goal
 

@@ -1,5 +1,4 @@
-use Rattle.std.proofs.Common.{◌≡◌, sym, rules}
-use Rattle.must_find.proofs.Inserted.{has_insert, has_again}
+use Rattle.must_find.proofs.Inserted.{has_insert}
 use Rattle.must_find.proofs.findings.Findings.add.Goals as goal
 
 pub returns-in_ok-insert-in-Some-clause-ok : goal.returns-in_ok-insert-in-Some-clause-ok

@@ -28,8 +28,8 @@ loop-rank-preserved c =
     let at = get_or_read c.self.inside.ranks.items _ c.index.result.now (omega (arith, good.within, ap length c.self.view_is)) read 0 in
     rw (c.in_ok-push.ensures.items, c.loop-rank.invariant, more) (ap (λ x. incl c.self.inside.ranks.items (take c.loop-rank.rank-index c.args.ranks.now) ++ x ∷ []) at)
 
-pub invariant_of-result : goal.invariant_of-result
-invariant_of-result c =
+pub listed-requires : goal.listed-requires
+listed-requires c =
     let all = take_all c.loop-rank.rank-index c.args.ranks.now (omega arith) in
     let good = rw (← c.self.view_is) at c.requires in
-    rw (c.loop-rank.invariant, all) (incl_distinct c.self.inside.ranks.items c.args.ranks.now c.self.invariant good)
+    rw (c.loop-rank.invariant, all) (incl_distinct c.self.inside.ranks.items c.args.ranks.now c.self.invariant.0 good)

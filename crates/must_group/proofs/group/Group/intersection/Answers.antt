@@ -4,7 +4,7 @@ use Rattle.std.specs.Set.{is_member}
 use Rattle.must_group.proofs.Distinct.{filter_distinct}
 use Rattle.must_group.proofs.group.Group.intersection.Goals as goal
 
-pub invariant_of-result : goal.invariant_of-result
-invariant_of-result c =
+pub listed-requires : goal.listed-requires
+listed-requires c =
     let chosen : c.in_ok-ranks.ranks.items ≡ filter (λ rank. is_member nat_eq c.in_ok-others.others rank) c.self.inside.ranks.items = search rules in
-    rw chosen (filter_distinct _ c.self.inside.ranks.items c.self.invariant)
+    rw chosen (filter_distinct _ c.self.inside.ranks.items c.self.invariant.0)
