@@ -7,9 +7,9 @@ use Rattle.std.proofs.lemmas.Int.{ints}
 use Rattle.std.proofs.Math.IntN.{zero-*ℤ}
 use Rattle.must_type.specs.declared.summary.Span.{Span}
 use Rattle.must_type.specs.declared.summary.Summary.{Summary}
-use Rattle.must_type.specs.declared.construct.Dim.{Dim}
+use Rattle.must_call.specs.declared.items.Dim.{Dim}
 use Rattle.must_type.specs.Maps.{Entry, Element, LowerMarker, UpperMarker, moved, extent, each_below, block, without_markers, size, alignment}
-use Rattle.must_type.specs.Constructs.{natural, vector_map, hvector_map, resized_map, subarray_map, cells_in, part_cells, slow_first}
+use Rattle.must_type.specs.Constructs.{natural, vector_map, hvector_map, resized_map, subarray_map, cells_in, part_cells, slow_first, at_cells}
 use Rattle.must_type.specs.Summaries.{span_join, span_moved, span_repeated, hull, element_span, lower_span, upper_span, summary, no_entries, join, shift, repeated, marked, unmarked}
 use Rattle.must_type.proofs.Spans.{span, join_none, join_moved, moved_twice, hull-append}
 use Rattle.must_type.proofs.Summed.{same_summary, summary-append, summary-moved, summary-each_below, times_suc, shift_twice, shift_zero, shift_join, shift_alignment, summary_alignment, summary-block, alignment_some}
@@ -113,10 +113,6 @@ times_times zero m d = let e : 0 * m ≡ 0 = omega arith in ap (λ k. pos k *ℤ
 times_times (suc n) m d =
     let e : suc n * m ≡ n * m + m = omega arith in
     ap (λ k. pos k *ℤ d) e ∙ omega (arith, ints, times_add (n * m) m d, times_times n m d, times_suc n (pos m *ℤ d))
-
--- the basics of T at each of some cells, which are as large as its extent
-abbrev pub at_cells : List Entry → List ℕ → List Entry
-at_cells T cells = flat_map (λ c. moved (pos c *ℤ extent T) (without_markers T)) cells
 
 no_entries_moved : (d : ℤ) → summary [] ≡ shift d (summary [])
 unfolding summary shift

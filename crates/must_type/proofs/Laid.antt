@@ -5,8 +5,10 @@ use Rattle.must_type.specs.declared.summary.Summary.{Summary}
 use Rattle.must_type.specs.Maps.{Entry, extent, block}
 use Rattle.must_type.specs.declared.construct.StructItem.{StructItem}
 use Rattle.must_type.specs.declared.construct.Construct.{Construct}
-use Rattle.must_type.specs.declared.construct.Construct.TheVariants.{Contiguous, Vector, Hvector, Indexed, Hindexed, IndexedBlock, HindexedBlock, Struct, Dup, Resized, Subarray}
-use Rattle.must_type.specs.Constructs.{the_old, old_of, Old, map_of, weight_of, old_numbers, vector_map, hvector_map, resized_map, HasOneOld}
+use Rattle.must_type.specs.declared.construct.Construct.TheVariants.{Struct}
+use Rattle.must_type.specs.Constructs.{the_old, map_of, vector_map, hvector_map, resized_map}
+use Rattle.must_type.specs.Weights.{old_of, Old, weight_of}
+use Rattle.must_type.specs.Olds.{HasOneOld}
 use Rattle.must_type.specs.Summaries.{summary, repeated, marked}
 use Rattle.must_type.specs.Tree.{type_map, type_maps}
 use Rattle.must_type.specs.View.{trees_of}
@@ -21,65 +23,25 @@ first_is (t ∷ ts) f h is = is t
 pub contiguous_is : (n : ℕ) (T : List Entry) (f : Facts) → IsOf T f → repeated n f.bounds.extent f.summary ≡ summary (block n T (pos 0))
 contiguous_is n T f h = ap (λ (e : ℤ). repeated n e f.summary) h.extent_is ∙ ap (repeated n (extent T)) h.summary_is ∙ sym (summary-contiguous n T)
 
-pub vector_is : (count length_of : ℕ) (stride : ℤ) (T : List Entry) (f : Facts) → IsOf T f → repeated count (stride *ℤ f.bounds.extent) (repeated length_of f.bounds.extent f.summary) ≡ summary (vector_map count length_of stride T)
-vector_is count length_of stride T f h =
-    ap (λ (e : ℤ). repeated count (stride *ℤ e) (repeated length_of e f.summary)) h.extent_is ∙ ap (λ (s : Summary). repeated count (stride *ℤ extent T) (repeated length_of (extent T) s)) h.summary_is ∙ sym (summary-vector count length_of stride T)
+pub vector_is : (count blocklength : ℕ) (stride : ℤ) (T : List Entry) (f : Facts) → IsOf T f → repeated count (stride *ℤ f.bounds.extent) (repeated blocklength f.bounds.extent f.summary) ≡ summary (vector_map count blocklength stride T)
+vector_is count blocklength stride T f h =
+    ap (λ (e : ℤ). repeated count (stride *ℤ e) (repeated blocklength e f.summary)) h.extent_is ∙ ap (λ (s : Summary). repeated count (stride *ℤ extent T) (repeated blocklength (extent T) s)) h.summary_is ∙ sym (summary-vector count blocklength stride T)
 
-pub hvector_is : (count length_of : ℕ) (stride : ℤ) (T : List Entry) (f : Facts) → IsOf T f → repeated count stride (repeated length_of f.bounds.extent f.summary) ≡ summary (hvector_map count length_of stride T)
-hvector_is count length_of stride T f h =
-    ap (λ (e : ℤ). repeated count stride (repeated length_of e f.summary)) h.extent_is ∙ ap (λ (s : Summary). repeated count stride (repeated length_of (extent T) s)) h.summary_is ∙ sym (summary-hvector count length_of stride T)
+pub hvector_is : (count blocklength : ℕ) (stride : ℤ) (T : List Entry) (f : Facts) → IsOf T f → repeated count stride (repeated blocklength f.bounds.extent f.summary) ≡ summary (hvector_map count blocklength stride T)
+hvector_is count blocklength stride T f h =
+    ap (λ (e : ℤ). repeated count stride (repeated blocklength e f.summary)) h.extent_is ∙ ap (λ (s : Summary). repeated count stride (repeated blocklength (extent T) s)) h.summary_is ∙ sym (summary-hvector count blocklength stride T)
 
 pub resized_is : (lb e : ℤ) (T : List Entry) (f : Facts) → IsOf T f → marked lb (lb +ℤ e) f.summary ≡ summary (resized_map lb e T)
 resized_is lb e T f h = ap (marked lb (lb +ℤ e)) h.summary_is ∙ sym (summary-resized lb e T)
 
 pub one_old : (call : Construct) → ((x : List StructItem) → call ≡ Struct x → ⊥) → HasOneOld call
-one_old (Contiguous count old) h = tt
-one_old (Vector count length_of stride old) h = tt
-one_old (Hvector count length_of stride old) h = tt
-one_old (Indexed blocks old) h = tt
-one_old (Hindexed blocks old) h = tt
-one_old (IndexedBlock length_of disps old) h = tt
-one_old (HindexedBlock length_of disps old) h = tt
 one_old (Struct blocks) h = h blocks refl
-one_old (Dup old) h = tt
-one_old (Resized lb e old) h = tt
-one_old (Subarray order dims old) h = tt
-
-pub one_number : (call : Construct) → HasOneOld call → length (old_numbers call) ≡ 1
-one_number (Contiguous count old) h = refl
-one_number (Vector count length_of stride old) h = refl
-one_number (Hvector count length_of stride old) h = refl
-one_number (Indexed blocks old) h = refl
-one_number (Hindexed blocks old) h = refl
-one_number (IndexedBlock length_of disps old) h = refl
-one_number (HindexedBlock length_of disps old) h = refl
-one_number (Struct blocks) h = absurd h
-one_number (Dup old) h = refl
-one_number (Resized lb e old) h = refl
-one_number (Subarray order dims old) h = refl
+one_old _ h = tt
 
 pub map_of_one : (call : Construct) (maps : List (List Entry)) → HasOneOld call → map_of call (the_old maps ∷ []) ≡ map_of call maps
-map_of_one (Contiguous count old) maps h = refl
-map_of_one (Vector count length_of stride old) maps h = refl
-map_of_one (Hvector count length_of stride old) maps h = refl
-map_of_one (Indexed blocks old) maps h = refl
-map_of_one (Hindexed blocks old) maps h = refl
-map_of_one (IndexedBlock length_of disps old) maps h = refl
-map_of_one (HindexedBlock length_of disps old) maps h = refl
 map_of_one (Struct blocks) maps h = absurd h
-map_of_one (Dup old) maps h = refl
-map_of_one (Resized lb e old) maps h = refl
-map_of_one (Subarray order dims old) maps h = refl
+map_of_one _ maps h = refl
 
 pub weight_of_one : (call : Construct) (olds : List Old) → HasOneOld call → weight_of call (old_of olds ∷ []) ≡ weight_of call olds
-weight_of_one (Contiguous count old) olds h = refl
-weight_of_one (Vector count length_of stride old) olds h = refl
-weight_of_one (Hvector count length_of stride old) olds h = refl
-weight_of_one (Indexed blocks old) olds h = refl
-weight_of_one (Hindexed blocks old) olds h = refl
-weight_of_one (IndexedBlock length_of disps old) olds h = refl
-weight_of_one (HindexedBlock length_of disps old) olds h = refl
 weight_of_one (Struct blocks) olds h = absurd h
-weight_of_one (Dup old) olds h = refl
-weight_of_one (Resized lb e old) olds h = refl
-weight_of_one (Subarray order dims old) olds h = refl
+weight_of_one _ olds h = refl

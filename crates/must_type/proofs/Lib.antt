@@ -4,10 +4,12 @@ mod Rows
 mod Distances
 mod FormLaws
 mod Laid
+mod Olds
 mod Layouts
 mod Parts
 mod Settled
 mod SlotLaws
 mod Spans
 mod Summed
+mod Translated
 mod Weights

@@ -7,12 +7,13 @@ use Rattle.std.proofs.lemmas.List.{length-reverse, take-append-drop, drop_all}
 use Rattle.std.proofs.lemmas.Grind.{reverse_onto}
 use Rattle.std.proofs.Math.Seq.{drop-cons}
 use Rattle.must_type.specs.declared.summary.Summary.{Summary}
-use Rattle.must_type.specs.declared.construct.Dim.{Dim}
+use Rattle.must_call.specs.declared.items.Dim.{Dim}
 use Rattle.must_type.specs.Maps.{Entry, extent, IsBounded}
-use Rattle.must_type.specs.Constructs.{natural, cells_in, part_cells, slow_first, IsPart, subarray_map}
+use Rattle.must_type.specs.Constructs.{natural, cells_in, part_cells, slow_first, at_cells, subarray_map}
+use Rattle.must_type.specs.Allowed.{IsPart}
 use Rattle.must_type.specs.Summaries.{summary, shift, repeated, marked, unmarked, Fits, IsBoundedBy, IsOrdered}
 use Rattle.must_type.proofs.Distances.{repeated_size, shifted_size, bounded_abs, abs_bounded, shift_bounded, multiple_bounded, repeated_near, wider_by, wider_span, wider as wider_at, repeated_ordered, shift_ordered}
-use Rattle.must_type.proofs.FormLaws.{at_cells, summary-dimension, summary-subarray, summary-one_cell, times_times, repeated_alignment}
+use Rattle.must_type.proofs.FormLaws.{summary-dimension, summary-subarray, summary-one_cell, times_times, repeated_alignment}
 use Rattle.must_type.proofs.Summed.{times_suc, shift_alignment}
 use Rattle.std.proofs.Math.IntN.{zero-*ℤ}
 use Rattle.must_type.specs.declared.facts.Facts.{Facts}

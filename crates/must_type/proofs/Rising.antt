@@ -1,14 +1,19 @@
 -- The laws of paddings and of cells.
-use Rattle.std.proofs.Common.{◌≡◌, refl, sym, ◌∙◌, ap, subst, arith, ℕ, zero, suc, ◌+◌, ◌-◌, ◌*◌, ◌/◌, ◌%◌, ◌≤◌, ◌<◌, ℤ, pos, negsuc, ◌+ℤ◌, ◌-ℤ◌, ◌*ℤ◌, List, [], ◌∷◌, ◌++◌, map, mul-le-mul, le_refl, mul_comm}
+use Rattle.std.proofs.Common.{◌≡◌, refl, sym, ◌∙◌, ap, subst, arith, Less, ℕ, zero, suc, ◌+◌, ◌-◌, ◌*◌, ◌/◌, ◌%◌, ◌≤◌, ◌<◌, ℤ, pos, negsuc, ◌+ℤ◌, ◌-ℤ◌, ◌*ℤ◌, List, [], ◌∷◌, ◌++◌, map, mul-le-mul, le_refl, mul_comm}
 use Rattle.std.specs.List.{AllByRecursion}
+use Rattle.std.specs.Ordering.{nat_cmp}
+use Rattle.std.specs.Cmp.{nat_cmp_is}
+use Rattle.must_base.specs.Listing.{Rises}
+use Rattle.must_base.specs.ListingLaws.{rises_nil, rises_cons}
 use Rattle.std.specs.Int.{int_rem_euclid}
 use Rattle.std.proofs.lemmas.Int.{ints}
 use Rattle.std.proofs.Math.IntN.{pos-*ℤ-pos, negsuc-*ℤ-pos}
 use Rattle.std.proofs.Math.Nat.{add-mul}
-use Rattle.must_type.specs.declared.construct.Dim.{Dim}
+use Rattle.must_call.specs.declared.items.Dim.{Dim}
 use Rattle.must_type.specs.Maps.{padding, each_below}
-use Rattle.must_type.specs.Constructs.{natural, cells_in, part_cells, IsPart}
-use Rattle.must_type.specs.Laws.{IsLeastPadding, Rise, AreCellsOf}
+use Rattle.must_type.specs.Constructs.{natural, cells_in, part_cells}
+use Rattle.must_type.specs.Allowed.{IsPart}
+use Rattle.must_type.specs.Laws.{IsLeastPadding, AreCellsOf}
 use Rattle.must_type.proofs.Parts.{natural_is}
 
 below_zero : (q a : ℕ) (z : ℤ) → z +ℤ pos (a * q) ≡ pos 0 → (k : ℤ) × (z ≡ k *ℤ pos a)
@@ -49,6 +54,19 @@ pub padding_least : (length : ℤ) (a : ℕ) → 1 ≤ a → IsLeastPadding leng
 padding_least length a h = by_sign (pos 0 -ℤ length) length a refl h
 
 -- ---- cells
+
+-- each number is below those behind it
+abbrev Rise : List ℕ → Type 0
+Rise [] = Unit {0}
+Rise (x ∷ xs) = AllByRecursion (λ y. x < y) xs × Rise xs
+
+before_all : (x : ℕ) (xs : List ℕ) → AllByRecursion (λ y. x < y) xs → AllByRecursion (λ y. nat_cmp x y ≡ Less) xs
+before_all x [] h = tt
+before_all x (y ∷ ys) h = (sym (nat_cmp_is x y Less h.0), before_all x ys h.1)
+
+rises : (xs : List ℕ) → Rise xs → Rises nat_cmp xs
+rises [] h = rises_nil nat_cmp
+rises (x ∷ xs) h = rises_cons nat_cmp x xs (before_all x xs h.0) (rises xs h.1)
 
 all_more : (m n : ℕ) (xs : List ℕ) → m ≤ n → AllByRecursion (λ x. x < m) xs → AllByRecursion (λ x. x < n) xs
 all_more m n [] h p = tt
@@ -102,10 +120,13 @@ part_end d p =
     let e = natural_is d.size (omega (arith, ints, p.size)) in
     omega (arith, ints, a, b, e, p.within)
 
-pub cells_rising : (dims : List Dim) → AllByRecursion IsPart dims → Rise (part_cells dims) × AreCellsOf dims (part_cells dims)
-cells_rising [] p = ((tt, tt), (omega arith, tt))
-cells_rising (d ∷ ds) p =
-    let inner = cells_rising ds p.1 in
+cells_below : (dims : List Dim) → AllByRecursion IsPart dims → Rise (part_cells dims) × AreCellsOf dims (part_cells dims)
+cells_below [] p = ((tt, tt), (omega arith, tt))
+cells_below (d ∷ ds) p =
+    let inner = cells_below ds p.1 in
     let r = rows (natural d.subsize) (natural d.start) (cells_in ds) (part_cells ds) inner.0 inner.1 in
     let room : (natural d.start + natural d.subsize) * cells_in ds ≤ natural d.size * cells_in ds = mul-le-mul (part_end d p.0) (le_refl (cells_in ds)) in
     (r.0, all_more ((natural d.start + natural d.subsize) * cells_in ds) (natural d.size * cells_in ds) (part_cells (d ∷ ds)) room r.1)
+
+pub cells_rising : (dims : List Dim) → AllByRecursion IsPart dims → Rises nat_cmp (part_cells dims) × AreCellsOf dims (part_cells dims)
+cells_rising dims p = let c = cells_below dims p in (rises (part_cells dims) c.0, c.1)

@@ -11,7 +11,8 @@ use Rattle.must_type.specs.declared.construct.StructItem.{StructItem}
 use Rattle.must_type.specs.Constructs.{struct_map, natural}
 use Rattle.must_type.specs.Tree.{TypeTree, Trees, Elementary, Made, old_at, height, greatest_height, none, more, row_get, row_length, type_map, type_maps, depth, greatest_depth, weight}
 use Rattle.must_type.specs.View.{trees_of}
-use Rattle.must_type.specs.Facts.{facts_of, bounds_of, IsSound, IsSettled, IsOf}
+use Rattle.must_type.specs.Facts.{facts_of, bounds_of, IsSettled, IsOf}
+use Rattle.must_type.specs.Making.{IsMakeable}
 use Rattle.must_type.proofs.Summed.{summary_alignment, summary-append}
 use Rattle.must_type.proofs.Layouts.{block_is, front_fits}
 use Rattle.must_type.proofs.Reach.{ordered, within_fits}
@@ -47,7 +48,7 @@ extent_near : (es : List Entry) → IsBounded (2 ^ 62) (lower es) → IsBounded 
 unfolding extent
 extent_near es l u = record { low = omega (arith, ints, l.high, u.low); high = omega (arith, ints, l.low, u.high) }
 
-pub facts_settled : (t : TypeTree) → IsSound t → IsSettled (facts_of t)
+pub facts_settled : (t : TypeTree) → IsMakeable t → IsSettled (facts_of t)
 unfolding facts_of bounds_of
 facts_settled t h =
     record { fits = (within_fits t h.reach).0; ordered = ordered (type_map t); aligned = summary_alignment (type_map t); near = extent_near (type_map t) h.reach.lower_near h.reach.upper_near }

@@ -10,7 +10,8 @@ use Rattle.must_type.specs.declared.summary.Summary.{Summary}
 use Rattle.must_type.specs.Maps.{Entry, size, lower, upper, extent}
 use Rattle.must_type.specs.Summaries.{summary, lower_bound, bounds_by}
 use Rattle.must_type.specs.Tree.{TypeTree, Elementary, type_map, depth, weight}
-use Rattle.must_type.specs.Facts.{bounds_of, facts_of, IsSound}
+use Rattle.must_type.specs.Facts.{bounds_of, facts_of}
+use Rattle.must_type.specs.Making.{IsMakeable}
 use Rattle.must_type.proofs.Reach.{lower-summary, upper-summary}
 
 -- what a basic type of n bytes knows of itself
@@ -78,9 +79,9 @@ size_some Uint16 = omega arith
 size_some Uint32 = omega arith
 size_some Uint64 = omega arith
 
-pub elementary_sound : (b : Basic) → IsSound (Elementary b)
+pub elementary_makeable : (b : Basic) → IsMakeable (Elementary b)
 unfolding facts_of bounds_of
-elementary_sound b =
+elementary_makeable b =
     let n = size_some b in
     let f = elementary_facts b in
     let l : lower (type_map (Elementary b)) ≡ pos 0 = sym (ap (λ (g : Facts). g.bounds.lb) f) in

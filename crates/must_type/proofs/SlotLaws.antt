@@ -14,11 +14,6 @@ slot_found [] n d h = absurd (omega arith)
 slot_found (t ∷ slots) zero d h = refl
 slot_found (t ∷ slots) (suc n) d h = slot_found slots n d (omega arith)
 
-pub slot_past : (slots : List (Option Shared)) (n : ℕ) → length slots ≤ n → tree_at (slots_of slots) n ≡ None
-slot_past [] n h = refl
-slot_past (t ∷ slots) zero h = absurd (omega arith)
-slot_past (t ∷ slots) (suc n) h = slot_past slots n (omega arith)
-
 pub live_below : (slots : List (Option Shared)) (n : ℕ) → IsSome (tree_at (slots_of slots) n) → n < length slots
 live_below [] n h = cc
 live_below (t ∷ slots) zero h = omega arith

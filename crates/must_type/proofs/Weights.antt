@@ -2,10 +2,12 @@
 use Rattle.std.proofs.Common.{◌≡◌, refl, sym, ◌∙◌, ap, arith, ℕ, zero, suc, ◌+◌, ◌-◌, ◌*◌, ◌≤◌, ◌<◌, ◌^◌, min, List, [], ◌∷◌, length, get_or, take, mul-le-mul, le_refl, length-drop, ◌⊎◌, inl, inr}
 use Rattle.std.proofs.lemmas.Bool.{cases_lt}
 use Rattle.must_type.specs.declared.facts.Facts.{Facts}
-use Rattle.must_type.specs.declared.construct.Dim.{Dim}
+use Rattle.must_call.specs.declared.items.Dim.{Dim}
 use Rattle.must_type.specs.declared.construct.StructItem.{StructItem}
 use Rattle.must_type.specs.Maps.{size, extent}
-use Rattle.must_type.specs.Constructs.{natural, Old, old_of, weigh, part_weight, struct_weight, IsPart}
+use Rattle.must_type.specs.Constructs.{natural}
+use Rattle.must_type.specs.Weights.{Old, old_of, weigh, part_weight, struct_weight}
+use Rattle.must_type.specs.Allowed.{IsPart}
 use Rattle.must_type.specs.Summaries.{summary}
 use Rattle.must_type.specs.Tree.{TypeTree, type_map, weight, weighed}
 use Rattle.must_type.specs.View.{trees_of}

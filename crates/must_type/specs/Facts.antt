@@ -7,7 +7,7 @@ use Rattle.must_type.specs.declared.facts.Facts.{Facts}
 use Rattle.must_type.specs.declared.summary.Summary.{Summary}
 use Rattle.must_type.specs.Maps.{Entry, size, lower, upper, extent, IsBounded}
 use Rattle.must_type.specs.Summaries.{summary, Fits, IsOrdered, IsBoundedBy}
-use Rattle.must_type.specs.Constructs.{Old, old_numbers, IsAllowed}
+use Rattle.must_type.specs.Weights.{Old}
 use Rattle.must_type.specs.Tree.{TypeTree, Elementary, Made, type_map, depth, weight, row_length, IsWithinReach}
 
 -- the size and the bounds of a map
@@ -16,17 +16,6 @@ bounds_of es = record { size = pos (size es); lb = lower es; ub = upper es; exte
 
 unfoldable pub facts_of : TypeTree → Facts
 facts_of t = record { summary = summary (type_map t); bounds = bounds_of (type_map t); depth = depth t; weight = weight t }
-
--- the call is allowed, and there are as many old types as it names
-abbrev pub IsWellMade : TypeTree → Type 0
-IsWellMade (Elementary b) = Unit {0}
-IsWellMade (Made origin call olds) = IsAllowed call × (row_length olds ≡ length (old_numbers call))
-
--- what is true of every type that a table holds or held
-pub record IsSound (t : TypeTree) : Type 0 where
-  pub reach : IsWithinReach t
-  pub made : IsWellMade t
-  pub light : weight t ≤ 2 ^ 64
 
 -- facts that numbers can be computed from without wrapping
 pub record IsSettled (f : Facts) : Type 0 where

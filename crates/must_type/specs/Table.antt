@@ -3,13 +3,14 @@ use Rattle.std.specs.Prelude.{ℕ, zero, suc, ◌+◌, ℤ, pos, List, [], ◌�
 use Rattle.std.specs.Option.{IsSome}
 use Rattle.std.specs.List.{AllByRecursion}
 use Rattle.must_call.specs.declared.basic.Basic.{Basic}
-use Rattle.must_call.specs.declared.basic.Basic.TheVariants.{Char, SignedChar, UnsignedChar, Byte, Short, UnsignedShort, Int, Unsigned, Long, UnsignedLong, LongLong, UnsignedLongLong, Float, Double, LongDouble, Wchar, CBool, Int8, Int16, Int32, Int64, Uint8, Uint16, Uint32, Uint64}
+use Rattle.must_call.specs.declared.basic.Basic.TheVariants.{Short, Int, Long, Float, Double}
+use Rattle.must_call.specs.Basics.{basics}
 use Rattle.must_type.specs.declared.construct.Construct.{Construct}
 use Rattle.must_type.specs.declared.construct.Construct.TheVariants.{Contiguous, Struct}
 use Rattle.must_type.specs.declared.tree.Origin.TheVariants.{Predefined, Derived}
-use Rattle.must_type.specs.Maps.{size, extent}
-use Rattle.must_type.specs.Constructs.{weigh, old_numbers}
-use Rattle.must_type.specs.Tree.{TypeTree, Trees, Elementary, Made, none, more, type_map, weight}
+use Rattle.must_type.specs.Weights.{weigh}
+use Rattle.must_type.specs.Olds.{old_numbers}
+use Rattle.must_type.specs.Tree.{TypeTree, Trees, Elementary, Made, none, more, weight, as_old}
 
 -- the limit, and the types by their numbers; a number that is free has none
 pub record Types : Type 0 where
@@ -57,12 +58,7 @@ IsDerived (Some (Made Derived call olds)) = Unit {0}
 
 -- the weight of `count` elements of a type
 abbrev pub message_weight : ℕ → TypeTree → ℕ
-message_weight count t = weigh count (record { weight = weight t; size = size (type_map t); extent = extent (type_map t) })
-
--- the basic types in the order of their numbers, from 1 on
-abbrev pub basics : List Basic
-basics =
-    Char ∷ SignedChar ∷ UnsignedChar ∷ Byte ∷ Short ∷ UnsignedShort ∷ Int ∷ Unsigned ∷ Long ∷ UnsignedLong ∷ LongLong ∷ UnsignedLongLong ∷ Float ∷ Double ∷ LongDouble ∷ Wchar ∷ CBool ∷ Int8 ∷ Int16 ∷ Int32 ∷ Int64 ∷ Uint8 ∷ Uint16 ∷ Uint32 ∷ Uint64 ∷ []
+message_weight count t = weigh count (as_old t)
 
 -- a value of the first type, and an int behind it
 abbrev pub pair_call : ℕ → ℤ → Construct

@@ -6,7 +6,8 @@ use Rattle.must_type.specs.declared.construct.Construct.{Construct}
 use Rattle.must_type.specs.declared.tree.Origin.{Origin}
 use Rattle.must_type.specs.declared.tree.Origin.TheVariants.{Predefined, Derived}
 use Rattle.must_type.specs.Maps.{Entry, Element, displacement, end_of, size, lower, upper, extent, IsBounded}
-use Rattle.must_type.specs.Constructs.{map_of, Old, weight_of}
+use Rattle.must_type.specs.Constructs.{map_of}
+use Rattle.must_type.specs.Weights.{Old, weight_of}
 
 mutual
   pub data TypeTree : Type 0 where
@@ -85,6 +86,18 @@ call_of (Made origin call olds) = Some call
 abbrev pub old_at : TypeTree → ℕ → Option TypeTree
 old_at (Elementary b) i = None
 old_at (Made origin call olds) i = row_get olds i
+
+-- the maps of the old types, and what the weight of a call takes from them, in the call's order
+abbrev pub old_maps : TypeTree → List (List Entry)
+old_maps (Elementary b) = []
+old_maps (Made origin call olds) = type_maps olds
+
+abbrev pub as_old : TypeTree → Old
+as_old t = record { weight = weight t; size = size (type_map t); extent = extent (type_map t) }
+
+abbrev pub old_weights : TypeTree → List Old
+old_weights (Elementary b) = []
+old_weights (Made origin call olds) = weighed olds
 
 -- how many calls lie one in another; it falls from a type to each of its old types
 abbrev mutual

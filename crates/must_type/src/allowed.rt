@@ -2,9 +2,10 @@
 
 ghost use Rattle.std.specs.Prelude.{◌↔◌, ◌≤◌, length, IsTrue};
 ghost use Rattle.std.specs.List.{AllByRecursion};
-ghost use Rattle.must_type.specs.Constructs.{IsAllowed, IsCount, IsPart, IsArrayPart};
+ghost use Rattle.must_type.specs.Allowed.{IsAllowed, IsCount, IsPart, IsArrayPart};
 
-use crate::construct::{Construct, Dim, HindexItem, IndexItem, StructItem};
+use crate::construct::{Construct, StructItem};
+use must_call::{Dim, HindexItem, IndexItem};
 
 /// An item of a list in a call.
 trait Item {

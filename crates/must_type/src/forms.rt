@@ -5,21 +5,25 @@ ghost use Rattle.std.specs.List.{AllByRecursion};
 ghost use Rattle.std.specs.declared.rc.Rc.{Rc};
 ghost use Rattle.std.specs.declared.alloc.Global.{Global};
 ghost use Rattle.std.specs.Int.RustNames.{unsigned_abs};
-ghost use Rattle.must_type.specs.declared.construct.Dim.{Dim};
+ghost use Rattle.must_call.specs.declared.items.Dim.{Dim};
 ghost use Rattle.must_type.specs.declared.construct.Construct.{Construct};
 ghost use Rattle.must_type.specs.Maps.{Entry, IsBounded, extent, block as block_map};
-ghost use Rattle.must_type.specs.Constructs.{natural, map_of, weight_of, struct_map, vector_map, hvector_map, indexed_map, hindexed_map, indexed_block_map, hindexed_block_map, resized_map, subarray_map, HasOneOld, slow_first, IsAllowed, IsCount, IsPart, IsArrayPart, old_numbers};
+ghost use Rattle.must_type.specs.Constructs.{natural, map_of, struct_map, vector_map, hvector_map, indexed_map, hindexed_map, indexed_block_map, hindexed_block_map, resized_map, subarray_map, slow_first};
+ghost use Rattle.must_type.specs.Weights.{weight_of};
+ghost use Rattle.must_type.specs.Allowed.{IsAllowed, IsCount, IsPart, IsArrayPart};
+ghost use Rattle.must_type.specs.Olds.{HasOneOld, old_numbers};
 ghost use Rattle.must_type.specs.Summaries.{summary, shift, repeated as repeat, IsBoundedBy, IsOrdered};
 ghost use Rattle.must_type.specs.Tree.{TypeTree, Made, type_map, type_maps, depth, greatest_depth, weighed, IsWithinReach};
 ghost use Rattle.must_type.specs.View.{trees_of};
 ghost use Rattle.must_type.specs.Facts.{facts_of, IsSettled, IsOf, IsPartly, IsWhereFits};
 
-use crate::construct::{Construct, Dim, HindexItem, IndexItem, StructItem};
+use crate::construct::{Construct, StructItem};
 use crate::facts::Facts;
 use crate::layout::{add, all_blocks, block, run, runs, where_fits};
 use crate::places::natural;
 use crate::summary::{REACH, Summary, times};
 use crate::tree::{Origin, Tree};
+use must_call::{Dim, HindexItem, IndexItem};
 use std::rc::Rc;
 
 /// What the `i`-th old type knows of itself.
@@ -123,23 +127,28 @@ fn contiguous(old: &Facts, count: i32) -> Option<Summary>
     where_fits(run(old, natural(count)))
 }
 
-fn vector(old: &Facts, count: i32, length: i32, stride: i32) -> Option<Summary>
+fn vector(old: &Facts, count: i32, blocklength: i32, stride: i32) -> Option<Summary>
     requires settled { IsSettled old.now }
     requires count { IsCount count }
-    requires block { IsCount length }
-    ensures { (T : List Entry) → IsOf T old.now → IsWhereFits result (summary (vector_map (natural count) (natural length) stride T)) }
+    requires block { IsCount blocklength }
+    ensures { (T : List Entry) → IsOf T old.now → IsWhereFits result (summary (vector_map (natural count) (natural blocklength) stride T)) }
 {
     let stride = times(i128::from(stride), old.bounds.extent);
-    runs(old, natural(count), natural(length), stride)
+    runs(old, natural(count), natural(blocklength), stride)
 }
 
-fn hvector(old: &Facts, count: i32, length: i32, stride: i64) -> Option<Summary>
+fn hvector(old: &Facts, count: i32, blocklength: i32, stride: i64) -> Option<Summary>
     requires settled { IsSettled old.now }
     requires count { IsCount count }
-    requires block { IsCount length }
-    ensures { (T : List Entry) → IsOf T old.now → IsWhereFits result (summary (hvector_map (natural count) (natural length) stride T)) }
+    requires block { IsCount blocklength }
+    ensures { (T : List Entry) → IsOf T old.now → IsWhereFits result (summary (hvector_map (natural count) (natural blocklength) stride T)) }
 {
-    runs(old, natural(count), natural(length), i128::from(stride))
+    runs(
+        old,
+        natural(count),
+        natural(blocklength),
+        i128::from(stride),
+    )
 }
 
 fn resized(old: &Facts, lb: i64, extent: i64) -> Option<Summary>
@@ -169,21 +178,21 @@ fn hindexed(old: &Facts, items: &[HindexItem]) -> Option<Summary>
 }
 
 #[tactic(auto, unfolding(crate::specs::Constructs::indexed_block_map))]
-fn indexed_block(old: &Facts, length: i32, disps: &[i32]) -> Option<Summary>
+fn indexed_block(old: &Facts, blocklength: i32, disps: &[i32]) -> Option<Summary>
     requires settled { IsSettled old.now }
-    requires block { IsCount length }
-    ensures { (T : List Entry) → IsOf T old.now → IsWhereFits result (summary (indexed_block_map (natural length) disps.now T)) }
+    requires block { IsCount blocklength }
+    ensures { (T : List Entry) → IsOf T old.now → IsWhereFits result (summary (indexed_block_map (natural blocklength) disps.now T)) }
 {
-    all_blocks(old, natural(length), disps)
+    all_blocks(old, natural(blocklength), disps)
 }
 
 #[tactic(auto, unfolding(crate::specs::Constructs::hindexed_block_map))]
-fn hindexed_block(old: &Facts, length: i32, disps: &[i64]) -> Option<Summary>
+fn hindexed_block(old: &Facts, blocklength: i32, disps: &[i64]) -> Option<Summary>
     requires settled { IsSettled old.now }
-    requires block { IsCount length }
-    ensures { (T : List Entry) → IsOf T old.now → IsWhereFits result (summary (hindexed_block_map (natural length) disps.now T)) }
+    requires block { IsCount blocklength }
+    ensures { (T : List Entry) → IsOf T old.now → IsWhereFits result (summary (hindexed_block_map (natural blocklength) disps.now T)) }
 {
-    all_blocks(old, natural(length), disps)
+    all_blocks(old, natural(blocklength), disps)
 }
 
 /// What the calls with one old type make of it.

@@ -2,9 +2,12 @@
 
 ghost use Rattle.std.specs.Prelude.{ℤ, ℕ, ◌≤◌, List};
 ghost use Rattle.std.specs.List.{AllByRecursion};
-ghost use Rattle.must_type.specs.declared.construct.Dim.{Dim};
-ghost use Rattle.must_type.specs.Constructs.{IsPart, part_cells};
-ghost use Rattle.must_type.specs.Laws.{IsLeastPadding, Rise, AreCellsOf};
+ghost use Rattle.std.specs.Ordering.{nat_cmp};
+ghost use Rattle.must_base.specs.Listing.{Rises};
+ghost use Rattle.must_call.specs.declared.items.Dim.{Dim};
+ghost use Rattle.must_type.specs.Constructs.{part_cells};
+ghost use Rattle.must_type.specs.Allowed.{IsPart};
+ghost use Rattle.must_type.specs.Laws.{IsLeastPadding, AreCellsOf};
 ghost use Rattle.must_type.specs.Maps.{padding};
 
 /// The padding makes a length a multiple of the alignment, and is the least that does.
@@ -14,5 +17,5 @@ pub fn padding_is_least()
 
 /// The cells of a part of an array are listed in rising order, each within the array.
 pub fn cells_rise()
-    ensures { (dims : List Dim) → AllByRecursion IsPart dims → Rise (part_cells dims) × AreCellsOf dims (part_cells dims) }
+    ensures { (dims : List Dim) → AllByRecursion IsPart dims → Rises nat_cmp (part_cells dims) × AreCellsOf dims (part_cells dims) }
 {}

@@ -4,7 +4,7 @@ ghost use Rattle.std.specs.Prelude.{◌≡◌, ℕ, ◌≤◌, ◌^◌, ℤ, pos
 ghost use Rattle.std.specs.List.{AllByRecursion};
 ghost use Rattle.must_type.specs.Maps.{Entry, IsBounded, extent, block as block_map};
 ghost use Rattle.must_type.specs.Summaries.{summary, join, shift, repeated as repeat, Fits};
-ghost use Rattle.must_type.specs.Constructs.{IsCount};
+ghost use Rattle.must_type.specs.Allowed.{IsCount};
 ghost use Rattle.must_type.specs.Facts.{IsSettled, IsOf, IsModest, IsWhereFits};
 
 use crate::facts::Facts;
@@ -67,13 +67,13 @@ pub(crate) fn all_blocks<P: Place>(old: &Facts, common: u32, items: &[P]) -> Opt
     requires settled { IsSettled old.now }
     requires few { common ≤ 2 ^ 31 }
     requires allowed { AllByRecursion P.allowed items.now }
-    ensures { (T : List Entry) → IsOf T old.now → IsWhereFits result (summary (flat_map (λ it. block_map (P.length it common) T (P.at it (extent T))) items.now)) }
+    ensures { (T : List Entry) → IsOf T old.now → IsWhereFits result (summary (flat_map (λ it. block_map (P.blocklength it common) T (P.at it (extent T))) items.now)) }
 {
     let mut all = Summary::empty();
     for item in items {
-        let length = item.block_length(common);
+        let blocklength = item.blocklength_of(common);
         let at = item.begins(old.bounds.extent);
-        let Some(next) = add(all, block(old, length, at)) else {
+        let Some(next) = add(all, block(old, blocklength, at)) else {
             return None;
         };
         all = next;

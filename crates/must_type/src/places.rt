@@ -2,10 +2,11 @@
 
 ghost use Rattle.std.specs.Prelude.{◌≡◌, ℕ, ℤ, ◌≤◌, ◌^◌, ◌*ℤ◌, pos};
 ghost use Rattle.must_type.specs.Maps.{IsBounded};
-ghost use Rattle.must_type.specs.Constructs.{natural, IsCount};
+ghost use Rattle.must_type.specs.Constructs.{natural};
+ghost use Rattle.must_type.specs.Allowed.{IsCount};
 
-use crate::construct::{HindexItem, IndexItem};
 use crate::summary::times;
+use must_call::{HindexItem, IndexItem};
 
 /// A count that isn't negative.
 pub(crate) fn natural(n: i32) -> u32
@@ -22,15 +23,15 @@ pub(crate) trait Place {
     ghost allowed: { Self → Type 0 };
 
     /// The length of its block, where items without one have the given length.
-    ghost length: { Self → ℕ → ℕ };
+    ghost blocklength: { Self → ℕ → ℕ };
 
     /// Where its block begins, in bytes, by the old type's extent.
     ghost at: { Self → ℤ → ℤ };
 
-    fn block_length(&self, common: u32) -> u32
+    fn blocklength_of(&self, common: u32) -> u32
         requires allowed { allowed self.now }
         requires common { common ≤ 2 ^ 31 }
-        ensures value { result ≡ length self.now common }
+        ensures value { result ≡ blocklength self.now common }
         ensures few { result ≤ 2 ^ 31 };
 
     fn begins(&self, extent: i128) -> i128
@@ -42,11 +43,11 @@ pub(crate) trait Place {
 impl Place for IndexItem {
     ghost allowed = { λ it. IsCount it.block };
 
-    ghost length = { λ it _. natural it.block };
+    ghost blocklength = { λ it _. natural it.block };
 
     ghost at = { λ it extent. it.disp *ℤ extent };
 
-    fn block_length(&self, _common: u32) -> u32 {
+    fn blocklength_of(&self, _common: u32) -> u32 {
         natural(self.block)
     }
 
@@ -58,11 +59,11 @@ impl Place for IndexItem {
 impl Place for HindexItem {
     ghost allowed = { λ it. IsCount it.block };
 
-    ghost length = { λ it _. natural it.block };
+    ghost blocklength = { λ it _. natural it.block };
 
     ghost at = { λ it _. it.disp };
 
-    fn block_length(&self, _common: u32) -> u32 {
+    fn blocklength_of(&self, _common: u32) -> u32 {
         natural(self.block)
     }
 
@@ -74,11 +75,11 @@ impl Place for HindexItem {
 impl Place for i32 {
     ghost allowed = { λ _. Unit {0} };
 
-    ghost length = { λ _ common. common };
+    ghost blocklength = { λ _ common. common };
 
     ghost at = { λ disp extent. disp *ℤ extent };
 
-    fn block_length(&self, common: u32) -> u32 {
+    fn blocklength_of(&self, common: u32) -> u32 {
         common
     }
 
@@ -90,11 +91,11 @@ impl Place for i32 {
 impl Place for i64 {
     ghost allowed = { λ _. Unit {0} };
 
-    ghost length = { λ _ common. common };
+    ghost blocklength = { λ _ common. common };
 
     ghost at = { λ disp _. disp };
 
-    fn block_length(&self, common: u32) -> u32 {
+    fn blocklength_of(&self, common: u32) -> u32 {
         common
     }
 

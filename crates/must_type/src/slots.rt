@@ -3,7 +3,8 @@
 ghost use Rattle.std.specs.Prelude.{◌≡◌, ℕ, ◌+◌, ◌<◌, ◌≤◌, ◌^◌, ◌↔◌, [], ◌∷◌, ◌++◌, length, map, IsTrue, IfOk, OnOk, OnErr, Some, None, Ok, Err};
 ghost use Rattle.std.specs.Option.{IsSome};
 ghost use Rattle.must_type.specs.declared.tree.Origin.TheVariants.{Predefined};
-ghost use Rattle.must_type.specs.Constructs.{IsAllowed, HasOneOld, old_numbers};
+ghost use Rattle.must_type.specs.Allowed.{IsAllowed};
+ghost use Rattle.must_type.specs.Olds.{HasOneOld, old_numbers};
 ghost use Rattle.must_type.specs.Tree.{TypeTree, Elementary, Made, weight, IsWithinReach};
 ghost use Rattle.must_type.specs.View.{trees_of, slots_of};
 ghost use Rattle.must_type.specs.Table.{tree_at, trees_at, AreLive, IsDerived, basic_types, pair_call, predefined};

@@ -3,7 +3,8 @@
 ghost use Rattle.std.specs.Prelude.{◌≡◌, ℕ, ◌+◌, ◌<◌, ◌≤◌, ◌^◌, ◌↔◌, [], ◌∷◌, ◌++◌, length, slice_set, IsTrue, IfOk, OnErr, Some, None, Ok, Err};
 ghost use Rattle.std.specs.Option.{IsSome};
 ghost use Rattle.must_type.specs.declared.fault.Limit2.TheVariants.{Weight, Reach};
-ghost use Rattle.must_type.specs.Constructs.{IsAllowed, old_numbers};
+ghost use Rattle.must_type.specs.Allowed.{IsAllowed};
+ghost use Rattle.must_type.specs.Olds.{old_numbers};
 ghost use Rattle.must_type.specs.Facts.{bounds_of};
 ghost use Rattle.must_type.specs.Tree.{TypeTree, type_map, weight as weight_of_tree, IsWithinReach};
 ghost use Rattle.must_type.specs.Table.{Types, tree_at, trees_at, made_of, AreLive, live_weight, IsDerived, message_weight, predefined};

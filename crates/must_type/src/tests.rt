@@ -1,13 +1,14 @@
 //! Types with known bounds, weights and limits.
 
-use crate::construct::{
-    Construct, Dim, DimList, DispList, HdispList, HindexItem, HindexList, IndexItem, IndexList,
-    StructItem, StructList, TypeNo,
-};
+use crate::construct::{Construct, StructItem, StructList, TypeNo};
 use crate::fault::{Limit2, TypeFault};
 use crate::table::TypeTable;
+use crate::translation::{TypeHandles, construct_of};
 use must_base::NoMemory;
-use must_call::Basic;
+use must_call::{
+    Basic, Derive, Dim, DimList, DispList, HdispList, HindexItem, HindexList, IndexItem, IndexList,
+    Items, StructBlock,
+};
 use std::alloc::Global;
 use std::process::Abort;
 use std::test::Fail;
@@ -521,4 +522,94 @@ fn many_makes_and_frees(rt: HostRuntime) -> Result<(), Fail> {
     }
     assert_eq!(rt; last, TypeNo { number: 100_030 });
     Ok(())
+}
+
+/// A table of one handle.
+#[derive(Drop)]
+struct OneHandle {
+    handle: u32,
+    no: TypeNo,
+}
+
+impl TypeHandles for OneHandle {
+    ghost use Rattle.std.specs.Prelude.{◌==◌, if◌then◌else◌, Some, None};
+
+    ghost types = { λ one handle. if handle == one.handle then Some one.no else None };
+
+    fn type_of(&self, handle: u32) -> Option<TypeNo> {
+        if handle == self.handle {
+            return Some(self.no);
+        }
+        None
+    }
+}
+
+fn struct_call(alloc: Global, olds: &[u32]) -> Result<Derive, NoMemory> {
+    let mut blocks = Vec::new(alloc);
+    for old in olds {
+        blocks.push(StructBlock {
+            block: 3,
+            disp: 16,
+            old: *old,
+        })?;
+    }
+    Ok(Derive::TypeStruct {
+        blocks: Items::from_vec(blocks),
+        made: Some(65),
+    })
+}
+
+fn handles_of_64() -> OneHandle {
+    OneHandle {
+        handle: 64,
+        no: DOUBLE,
+    }
+}
+
+/// The call makes a type with these bounds of what the handle 64 stands for.
+fn expect_made(
+    rt: &impl Abort,
+    alloc: Global,
+    call: &Derive,
+    want: (i128, i128, i128, i128),
+) -> Result<(), Fail> {
+    let mut table = TypeTable::new(alloc, AMPLE)?;
+    let made = construct_of(alloc, &handles_of_64(), call)?.ok_or("no call")?;
+    expect(rt, alloc, &mut table, Ok(made), want)?;
+    Ok(())
+}
+
+/// The call makes no type.
+fn expect_none(rt: &impl Abort, alloc: Global, call: &Derive) -> Result<(), Fail> {
+    let made = construct_of(alloc, &handles_of_64(), call)?;
+    assert!(rt; made.is_none());
+    Ok(())
+}
+
+#[test]
+fn recorded_structs(rt: HostRuntime) -> Result<(), Fail> {
+    let alloc = rt.alloc();
+    let call = struct_call(alloc, &[64, 64])?;
+    expect_made(&rt, alloc, &call, (48, 16, 40, 24))?;
+    // the second block's handle stands for no type
+    let call = struct_call(alloc, &[64, 65])?;
+    expect_none(&rt, alloc, &call)
+}
+
+#[test]
+fn recorded_calls_with_one_old_type(rt: HostRuntime) -> Result<(), Fail> {
+    let alloc = rt.alloc();
+    let contiguous = Derive::TypeContiguous {
+        count: 3,
+        old: 64,
+        made: None,
+    };
+    expect_made(&rt, alloc, &contiguous, (24, 0, 24, 24))?;
+    let dup = Derive::TypeDup {
+        old: 65,
+        made: Some(66),
+    };
+    expect_none(&rt, alloc, &dup)?;
+    let commit = Derive::TypeCommit { dtype: 64 };
+    expect_none(&rt, alloc, &commit)
 }

@@ -1,11 +1,15 @@
 //! Trees of types: each type with the types that it was made from.
 
-ghost use Rattle.std.specs.Prelude.{◌≡◌, ℕ, ◌+◌, ◌≤◌, ◌<◌, ◌^◌, length, ◌↔◌, IsTrue, Some, MatchOption};
-ghost use Rattle.std.specs.Option.{option_copied};
+ghost use Rattle.std.specs.Prelude.{◌≡◌, ℕ, pos, ◌+◌, ◌≤◌, ◌<◌, ◌^◌, [], ◌∷◌, length, slice_get, ◌↔◌, IsTrue, Some, MatchOption};
+ghost use Rattle.std.specs.Option.{option_copied, option_map, IsSome};
+ghost use Rattle.must_type.specs.Maps.{Element, size, extent};
 ghost use Rattle.must_type.specs.declared.tree.Origin.TheVariants.{Derived};
-ghost use Rattle.must_type.specs.Constructs.{IsAllowed, old_numbers, weight_of};
-ghost use Rattle.must_type.specs.Facts.{bounds_of, facts_of, IsSound};
-ghost use Rattle.must_type.specs.Tree.{TypeTree, Elementary, Made, type_map, weighed, height, basic_of, call_of, old_at, IsWithinReach};
+ghost use Rattle.must_type.specs.Weights.{weight_of};
+ghost use Rattle.must_type.specs.Allowed.{IsAllowed};
+ghost use Rattle.must_type.specs.Olds.{old_numbers};
+ghost use Rattle.must_type.specs.Facts.{bounds_of, facts_of};
+ghost use Rattle.must_type.specs.Making.{IsMakeable, IsMadeBy};
+ghost use Rattle.must_type.specs.Tree.{TypeTree, Elementary, Made, type_map, weight, weighed, height, basic_of, call_of, old_at, old_maps, old_weights, as_old, IsWithinReach};
 ghost use Rattle.must_type.specs.Table.{IsDerived};
 ghost use Rattle.must_type.specs.View.{trees_of};
 
@@ -52,11 +56,12 @@ impl Model for Tree {
 
     ghost use Rattle.must_type.specs.Tree.{height};
     ghost use Rattle.must_type.specs.View.{tree_of};
-    ghost use Rattle.must_type.specs.Facts.{facts_of, IsSound};
+    ghost use Rattle.must_type.specs.Facts.{facts_of};
+    ghost use Rattle.must_type.specs.Making.{IsMakeable};
 
     ghost view = { λ a. tree_of a.node };
 
-    ghost invariant = { λ a. (a.facts ≡ facts_of (tree_of a.node)) × IsSound (tree_of a.node) };
+    ghost invariant = { λ a. (a.facts ≡ facts_of (tree_of a.node)) × IsMakeable (tree_of a.node) };
 
     ghost size = { height };
 
@@ -120,9 +125,10 @@ impl Tree {
         })
     }
 
-    /// The basic type that it is, for the types 1 to 25; else none. Takes constant time.
+    /// The basic type that it is, for the types 1 to 25; else none. Its map is that one element at 0. Takes constant time.
     pub fn basic(&self) -> Option<Basic>
-        ensures { result ≡ basic_of self.now }
+        ensures value { result ≡ basic_of self.now }
+        ensures map { MatchOption result (IsSome (call_of self.now)) (λ basic. (type_map self.now ≡ Element basic (pos 0) ∷ []) × (weight self.now ≡ 1)) }
     {
         match &self.node {
             Node::Elementary(basic) => Some(*basic),
@@ -130,10 +136,12 @@ impl Tree {
         }
     }
 
-    /// The call that made it; none for the types 1 to 25. Takes constant time.
+    /// The call that made it; none for the types 1 to 25. Its map is what the call makes of the maps of its old types, as
+    /// many as the call names, and the numbers of the call are allowed. Takes constant time.
     pub fn made(&self) -> Option<&Construct>
         ensures value { option_copied result ≡ call_of self.now }
-        ensures sound { IsSound self.now }
+        ensures made { MatchOption result (IsSome (basic_of self.now)) (λ call. IsMadeBy self.now call.now) }
+        ensures makeable { IsMakeable self.now }
     {
         match &self.node {
             Node::Elementary(_) => None,
@@ -145,6 +153,8 @@ impl Tree {
     /// exactly where there is no `i`-th. Takes constant time.
     pub fn old(&self, i: usize) -> Option<&Tree>
         ensures value { option_copied result ≡ old_at self.now i }
+        ensures map { option_map type_map (option_copied result) ≡ slice_get (old_maps self.now) i }
+        ensures weight { option_map as_old (option_copied result) ≡ slice_get (old_weights self.now) i }
         ensures lower { (t : TypeTree) → old_at self.now i ≡ Some t → height t < height self.now }
     {
         match &self.node {
@@ -170,7 +180,7 @@ impl Tree {
     /// What it knows of itself.
     pub(crate) fn facts(&self) -> Facts
         ensures value { result ≡ facts_of self.now }
-        ensures sound { IsSound self.now }
+        ensures makeable { IsMakeable self.now }
     {
         self.facts
     }
@@ -178,7 +188,9 @@ impl Tree {
     /// Its size and its bounds. Takes constant time: they were computed when the type was made.
     pub fn bounds(&self) -> Bounds
         ensures value { result ≡ bounds_of (type_map self.now) }
-        ensures sound { IsSound self.now }
+        ensures size { result.size ≡ pos (size (type_map self.now)) }
+        ensures extent { result.extent ≡ extent (type_map self.now) }
+        ensures makeable { IsMakeable self.now }
     {
         self.facts.bounds
     }

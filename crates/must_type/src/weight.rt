@@ -2,16 +2,20 @@
 
 ghost use Rattle.std.specs.Prelude.{◌≡◌, ℕ, [], ◌∷◌, ◌*◌, ◌+◌, ◌≤◌, ◌<◌, ◌^◌, min, length, sum_by};
 ghost use Rattle.std.specs.List.{AllByRecursion};
-ghost use Rattle.must_type.specs.Constructs.{IsAllowed, IsCount, IsPart, IsArrayPart, old_numbers, struct_weight, part_weight, slow_first, weigh, weight_of, HasOneOld};
+ghost use Rattle.must_type.specs.Constructs.{slow_first};
+ghost use Rattle.must_type.specs.Weights.{struct_weight, part_weight, weigh, weight_of};
+ghost use Rattle.must_type.specs.Allowed.{IsAllowed, IsCount, IsPart, IsArrayPart};
+ghost use Rattle.must_type.specs.Olds.{old_numbers, HasOneOld};
 ghost use Rattle.must_type.specs.Tree.{weighed};
 ghost use Rattle.must_type.specs.View.{trees_of};
 ghost use Rattle.must_type.specs.Facts.{IsSettled, weighed_facts};
 
-use crate::construct::{Construct, Dim, StructItem};
+use crate::construct::{Construct, StructItem};
 use crate::facts::Facts;
 use crate::forms::{nth_fastest, old_facts};
 use crate::places::{Place, natural};
 use crate::tree::Tree;
+use must_call::Dim;
 use std::rc::Rc;
 
 /// Where weights end.
@@ -32,14 +36,14 @@ pub(crate) fn weigh(old: &Facts, count: u64) -> u128
     u128::from(count) * u128::from(old.weight)
 }
 
-/// `count` times the weight of `length` elements.
-fn rows(old: &Facts, count: u32, length: u32) -> u128
+/// `count` times the weight of a block.
+fn rows(old: &Facts, count: u32, blocklength: u32) -> u128
     requires settled { IsSettled old.now }
     requires few { count ≤ 2 ^ 31 }
-    requires short { length ≤ 2 ^ 31 }
-    ensures { result ≡ min (count * weigh length (weighed_facts old.now)) (2 ^ 64) }
+    requires short { blocklength ≤ 2 ^ 31 }
+    ensures { result ≡ min (count * weigh blocklength (weighed_facts old.now)) (2 ^ 64) }
 {
-    let row = weigh(old, u64::from(length));
+    let row = weigh(old, u64::from(blocklength));
     (u128::from(count) * row).min(MOST)
 }
 
@@ -48,12 +52,12 @@ fn all_blocks<P: Place>(old: &Facts, common: u32, items: &[P]) -> u128
     requires settled { IsSettled old.now }
     requires few { common ≤ 2 ^ 31 }
     requires allowed { AllByRecursion P.allowed items.now }
-    ensures { result ≡ min (sum_by (λ it. weigh (P.length it common) (weighed_facts old.now)) items.now) (2 ^ 64) }
+    ensures { result ≡ min (sum_by (λ it. weigh (P.blocklength it common) (weighed_facts old.now)) items.now) (2 ^ 64) }
 {
     let mut total = 0;
     for item in items {
-        let length = item.block_length(common);
-        total = (total + weigh(old, u64::from(length))).min(MOST);
+        let blocklength = item.blocklength_of(common);
+        total = (total + weigh(old, u64::from(blocklength))).min(MOST);
     }
     total
 }

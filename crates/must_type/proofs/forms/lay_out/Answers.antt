@@ -4,7 +4,8 @@ use Rattle.must_type.specs.Summaries.{summary}
 use Rattle.must_type.specs.Tree.{type_maps}
 use Rattle.must_type.specs.View.{trees_of}
 use Rattle.must_type.specs.Facts.{IsWhereFits}
-use Rattle.must_type.proofs.Laid.{first_is, one_old, one_number, map_of_one}
+use Rattle.must_type.specs.ConstructLaws.{one_number}
+use Rattle.must_type.proofs.Laid.{first_is, one_old, map_of_one}
 use Rattle.must_type.proofs.forms.lay_out.Goals as goal
 
 pub returns : goal.returns

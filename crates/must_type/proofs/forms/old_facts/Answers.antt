@@ -7,7 +7,7 @@ use Rattle.must_type.proofs.Rows.{Shared, facts_are_of, facts_settled, facts_dep
 use Rattle.must_type.proofs.forms.old_facts.Goals as goal
 
 pub returns-clause-settled : goal.returns-clause-settled
-returns-clause-settled c = subst IsSettled (sym c.facts.ensures.value) (facts_settled c.as_ref.result.now c.facts.ensures.sound)
+returns-clause-settled c = subst IsSettled (sym c.facts.ensures.value) (facts_settled c.as_ref.result.now c.facts.ensures.makeable)
 
 pub returns-clause-of : goal.returns-clause-of
 returns-clause-of c = λ d.
@@ -17,4 +17,4 @@ returns-clause-of c = λ d.
 pub returns-clause-shallow : goal.returns-clause-shallow
 returns-clause-shallow c =
     let e = ap (λ (f : Facts). f.depth) c.facts.ensures.value ∙ facts_depth c.as_ref.result.now in
-    omega (arith, e, c.facts.ensures.sound.reach.shallow)
+    omega (arith, e, c.facts.ensures.makeable.reach.shallow)

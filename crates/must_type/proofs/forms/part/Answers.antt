@@ -1,7 +1,7 @@
 use Rattle.std.proofs.Common.{rules, ◌≡◌, ◌+◌, ◌-◌, ◌*◌, ◌≤◌, ◌<◌, ◌^◌, ℕ, subst, sym, ◌∙◌, ap, ℤ, ◌*ℤ◌, arith, length, get_or, to_z, of_z}
 use Rattle.std.specs.Int.{w128}
 use Rattle.must_type.specs.declared.summary.Summary.{Summary}
-use Rattle.must_type.specs.declared.construct.Dim.{Dim}
+use Rattle.must_call.specs.declared.items.Dim.{Dim}
 use Rattle.must_type.specs.Maps.{IsBounded}
 use Rattle.must_type.specs.Constructs.{slow_first}
 use Rattle.must_type.specs.Facts.{IsWhereFits, IsPartly}

@@ -1,9 +1,8 @@
 use Rattle.std.proofs.Common.{◌≡◌, List, pos, ◌*ℤ◌}
 use Rattle.must_type.specs.Maps.{Entry, extent}
-use Rattle.must_type.specs.Constructs.{cells_in, part_cells, slow_first}
+use Rattle.must_type.specs.Constructs.{cells_in, part_cells, slow_first, at_cells}
 use Rattle.must_type.specs.Summaries.{summary}
 use Rattle.must_type.specs.Facts.{IsOf, IsPartly}
-use Rattle.must_type.proofs.FormLaws.{at_cells}
 use Rattle.must_type.proofs.Parts.{fastest}
 use Rattle.must_type.proofs.forms.part.Given as goal
 

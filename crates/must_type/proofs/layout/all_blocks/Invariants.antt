@@ -9,5 +9,5 @@ abbrev pub invariant-loop-item : goal.invariant-loop-item
 invariant-loop-item g l =
     record {
       fits : Fits l.all;
-      all_is : (T : List Entry) → IsOf T l.fn.old → l.all ≡ summary (flat_map (λ it. block (g.P.Place.length it l.fn.common) T (g.P.Place.at it (extent T))) (take l.item-index l.items));
+      all_is : (T : List Entry) → IsOf T l.fn.old → l.all ≡ summary (flat_map (λ it. block (g.P.Place.blocklength it l.fn.common) T (g.P.Place.at it (extent T))) (take l.item-index l.items));
     }

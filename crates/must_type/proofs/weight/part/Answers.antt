@@ -1,6 +1,7 @@
 use Rattle.std.proofs.Common.{rules, ◌≡◌, ◌^◌, ◌*◌, ◌-◌, min, sym, ◌∙◌, ap, ℕ, arith, length, get_or}
-use Rattle.must_type.specs.declared.construct.Dim.{Dim}
-use Rattle.must_type.specs.Constructs.{natural, weigh, slow_first}
+use Rattle.must_call.specs.declared.items.Dim.{Dim}
+use Rattle.must_type.specs.Constructs.{natural, slow_first}
+use Rattle.must_type.specs.Weights.{weigh}
 use Rattle.must_type.specs.Facts.{weighed_facts}
 use Rattle.must_type.proofs.Parts.{length-slow}
 use Rattle.must_type.proofs.Weights.{part_weight_first, part_weight_step}

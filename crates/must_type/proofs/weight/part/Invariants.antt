@@ -1,5 +1,6 @@
 use Rattle.std.proofs.Common.{◌≡◌, ◌^◌, min}
-use Rattle.must_type.specs.Constructs.{part_weight, slow_first}
+use Rattle.must_type.specs.Constructs.{slow_first}
+use Rattle.must_type.specs.Weights.{part_weight}
 use Rattle.must_type.specs.Facts.{weighed_facts}
 use Rattle.must_type.proofs.Parts.{fastest}
 use Rattle.must_type.proofs.weight.part.Given as goal

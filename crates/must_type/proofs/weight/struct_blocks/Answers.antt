@@ -1,6 +1,7 @@
 use Rattle.std.proofs.Common.{rules, ◌≡◌, ◌^◌, ◌+◌, min, ◌∙◌, ap, ℕ, pos, arith, get_or}
 use Rattle.must_type.specs.declared.construct.StructItem.{StructItem}
-use Rattle.must_type.specs.Constructs.{natural, weigh}
+use Rattle.must_type.specs.Constructs.{natural}
+use Rattle.must_type.specs.Weights.{weigh}
 use Rattle.must_type.specs.Facts.{weighed_facts}
 use Rattle.must_type.proofs.Weights.{struct_weight_step}
 use Rattle.must_type.proofs.weight.struct_blocks.Goals as goal

@@ -1,5 +1,5 @@
 use Rattle.std.proofs.Common.{◌≡◌, ◌^◌, min, take}
-use Rattle.must_type.specs.Constructs.{struct_weight}
+use Rattle.must_type.specs.Weights.{struct_weight}
 use Rattle.must_type.specs.Tree.{weighed}
 use Rattle.must_type.specs.View.{trees_of}
 use Rattle.must_type.proofs.weight.struct_blocks.Given as goal

@@ -1,8 +1,9 @@
 use Rattle.std.proofs.Common.{◌<◌, ◌^◌, min, ◌∙◌, ap, ℕ, arith, length, [], ◌∷◌}
-use Rattle.must_type.specs.Constructs.{weight_of, Old}
+use Rattle.must_type.specs.Weights.{weight_of, Old}
 use Rattle.must_type.specs.Tree.{weighed}
 use Rattle.must_type.specs.View.{trees_of}
-use Rattle.must_type.proofs.Laid.{one_old, one_number, weight_of_one}
+use Rattle.must_type.specs.ConstructLaws.{one_number}
+use Rattle.must_type.proofs.Laid.{one_old, weight_of_one}
 use Rattle.must_type.proofs.Weights.{first_weighed}
 use Rattle.must_type.proofs.weight.weight_of.Goals as goal
 

@@ -2,7 +2,7 @@ use Rattle.std.proofs.Common.{◌≡◌, ◌∙◌, subst, ap, arith, length, Li
 use Rattle.std.proofs.lemmas.Bool.Decides.{nat_tests}
 use Rattle.must_type.specs.Tree.{TypeTree}
 use Rattle.must_type.specs.View.{slots_of}
-use Rattle.must_type.specs.Constructs.{old_numbers}
+use Rattle.must_type.specs.Olds.{old_numbers}
 use Rattle.must_type.specs.Table.{Types, AreLive}
 use Rattle.must_type.proofs.SlotLaws.{slots_length}
 use Rattle.must_type.proofs.table.TypeTable.can_make.Goals as goal

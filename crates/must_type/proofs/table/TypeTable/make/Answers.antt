@@ -1,6 +1,6 @@
 use Rattle.std.proofs.Common.{◌≡◌, ◌<◌, ◌^◌, ◌∙◌, ap, arith, length, List, Option, Some, ◌++◌, ◌∷◌, []}
 use Rattle.must_type.specs.declared.tree.Origin.TheVariants.{Derived}
-use Rattle.must_type.specs.Constructs.{old_numbers}
+use Rattle.must_type.specs.Olds.{old_numbers}
 use Rattle.must_type.specs.Tree.{TypeTree, Made, weight}
 use Rattle.must_type.specs.View.{trees_of, slots_of}
 use Rattle.must_type.specs.Table.{Types, live_weight, slot_weight, made_of, trees_at}

@@ -1,6 +1,6 @@
 use Rattle.std.proofs.Common.{◌≡◌, ◌∙◌, subst, sym, ap, Some}
 use Rattle.must_type.specs.declared.facts.Facts.{Facts}
-use Rattle.must_type.specs.Constructs.{weigh}
+use Rattle.must_type.specs.Weights.{weigh}
 use Rattle.must_type.specs.Tree.{TypeTree}
 use Rattle.must_type.specs.Table.{message_weight}
 use Rattle.must_type.specs.Facts.{IsSettled, weighed_facts}
@@ -9,7 +9,7 @@ use Rattle.must_type.proofs.Weights.{weighed_is}
 use Rattle.must_type.proofs.table.TypeTable.weight.Goals as goal
 
 pub weigh-requires : goal.weigh-requires
-weigh-requires c = record { settled = subst IsSettled (sym c.facts.ensures.value) (facts_settled c.tree.result.now c.facts.ensures.sound) }
+weigh-requires c = record { settled = subst IsSettled (sym c.facts.ensures.value) (facts_settled c.tree.result.now c.facts.ensures.makeable) }
 
 same_tree : (t u : TypeTree) → Some t ≡ Some u → t ≡ u
 same_tree t u e = cc
