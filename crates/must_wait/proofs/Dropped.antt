@@ -5,7 +5,7 @@ use Rattle.std.proofs.lemmas.Bool.{cases_eq, eqb-true, eq-eqb, true≢false, fal
 use Rattle.std.proofs.lemmas.List.{get_or-set_same, get_or-set_other, length-set, length-append}
 use Rattle.std.proofs.lemmas.Option.{slice_get-get_or}
 use Rattle.must_call.specs.declared.place.Place.{Place}
-use Rattle.must_find.specs.Listing.{Has}
+use Rattle.must_base.specs.Listing.{Has}
 use Rattle.must_wait.specs.declared.worklist.Watch.{Watch}
 use Rattle.must_wait.specs.Core.{is_held}
 use Rattle.must_wait.specs.Dropping.{CoreState, is_call_at, HeldAt, IsHeldWay, AllWaysHeld, WasLooked, HasWays, IsCoreReady, CoreSteps, with_dropped, core_taken}
@@ -109,7 +109,7 @@ none_any : {X : Type 0} (p : X → Bool) (xs : List X) → ((k : ℕ) (d : X) �
 none_any p [] h = refl
 none_any p (x ∷ xs) h = rw (h 0 x (omega arith)) (none_any p xs (λ k d less. h (suc k) d (omega arith)))
 
-one_fails : {X : Type 0} (p : X → Bool) (xs : List X) (k : ℕ) (x : X) → slice_get xs k ≡ Some x → p x ≡ false → list_all p xs ≡ false
+pub one_fails : {X : Type 0} (p : X → Bool) (xs : List X) (k : ℕ) (x : X) → slice_get xs k ≡ Some x → p x ≡ false → list_all p xs ≡ false
 one_fails p [] k x e h = absurd (cc)
 one_fails p (y ∷ ys) zero x e h = let same : x ≡ y = cc in rw (ap p (sym same) ∙ h) refl
 one_fails p (y ∷ ys) (suc k) x e h = false_and (p y) (list_all p ys) (one_fails p ys k x e h) where
@@ -123,15 +123,6 @@ free_way held (Some ways) way places e h = false_both (not (nat_eq (length ways)
   false_both : (a b : Bool) → b ≡ false → (a && b) ≡ false
   false_both true b e = e
   false_both false b e = refl
-
-pub free_none : (held : Place → Bool) (needs : Option Needs) → length (ways_in needs) ≡ 0 → is_held held needs ≡ false
-free_none held None e = refl
-free_none held (Some []) e = refl
-free_none held (Some (way ∷ ways)) e = absurd (omega arith)
-
-pub call_at : (o : Option ℕ) (call : ℕ) → is_call_at o call ≡ true → o ≡ Some call
-call_at None call e = absurd (true≢false (sym e))
-call_at (Some kept) call e = ap Some (eqb-true kept call e)
 
 -- looking at the watches of a dropped rank
 own_or_taken : (rows : Rows) (s : CoreState) (at rank way : ℕ) → IsHeldWay rows (with_dropped s at) rank way → (call : ℕ) (places : List Place) → kept_call s.kept rank ≡ Some call → way_at rows rank call way ≡ Some places
@@ -170,7 +161,7 @@ all_looked rows s t at all steps woken rank way = elim (steps.keeps rank way) [
       subst (λ c. (q : Place) × HeldAt (core_taken s at) rank c way others q) same_call (subst (λ ps. (q : Place) × HeldAt (core_taken s at) rank call way ps q) same h)
 
 -- at the end each kept rank is held
-has_any : {X : Type 0} (p : X → Bool) (xs : List X) (x : X) → Has xs x → p x ≡ true → list_any p xs ≡ true
+pub has_any : {X : Type 0} (p : X → Bool) (xs : List X) (x : X) → Has xs x → p x ≡ true → list_any p xs ≡ true
 has_any p [] x h e = absurd h
 has_any p (y ∷ ys) x (inl same) e = rw (ap p (sym same) ∙ e) refl
 has_any p (y ∷ ys) x (inr h) e = or_true (p y) (list_any p ys) (has_any p ys x h e) where
@@ -178,7 +169,7 @@ has_any p (y ∷ ys) x (inr h) e = or_true (p y) (list_any p ys) (has_any p ys x
   or_true true b e = refl
   or_true false b e = e
 
-held_needs : (held : Place → Bool) (needs : Option Needs) → 0 < length (ways_in needs) → ((way : ℕ) (places : List Place) → slice_get (ways_in needs) way ≡ Some places → list_any held places ≡ true) → is_held held needs ≡ true
+pub held_needs : (held : Place → Bool) (needs : Option Needs) → 0 < length (ways_in needs) → ((way : ℕ) (places : List Place) → slice_get (ways_in needs) way ≡ Some places → list_any held places ≡ true) → is_held held needs ≡ true
 held_needs held None some all = absurd (omega arith)
 held_needs held (Some []) some all = absurd (omega arith)
 held_needs held (Some (way ∷ ways)) some all =

@@ -1,5 +1,5 @@
 -- Ranks that are dropped one by one leave what the rounds leave.
-use Rattle.std.proofs.Common.{◌≡◌, ℕ, zero, suc, ◌+◌, ◌-◌, ◌<◌, ◌≤◌, ◌⊎◌, Bool, true, false, not, cond, List, [], ◌∷◌, ◌++◌, length, get_or, set, replicate, Option, Some, None, refl, sym, ap, subst, ◌∙◌, inl, inr, arith, nat_eq, eq-eqb}
+use Rattle.std.proofs.Common.{◌≡◌, ℕ, zero, suc, ◌+◌, ◌-◌, ◌<◌, ◌≤◌, ◌⊎◌, Bool, true, false, not, cond, List, [], ◌∷◌, ◌++◌, length, get_or, set, Option, Some, None, refl, sym, ap, subst, ◌∙◌, inl, inr, arith, nat_eq, eq-eqb}
 use Rattle.std.specs.Prelude.{find}
 use Rattle.std.specs.List.{list_all, list_any}
 use Rattle.std.specs.Option.{is_some}
@@ -8,12 +8,13 @@ use Rattle.std.proofs.lemmas.Bool.{cases_order, cases_eq, cases_Bool, ltb-true, 
 use Rattle.std.proofs.lemmas.List.{get_or-set_same, get_or-set_other, length-set}
 use Rattle.std.proofs.lemmas.List.Sums.{sum_by-set, sum_by-cons}
 use Rattle.must_call.specs.declared.place.Place.{Place}
-use Rattle.must_find.specs.Listing.{Has, Lists}
-use Rattle.must_wait.specs.Core.{blocked_at, holds, is_held, needs_at, kept_in, IsCore}
+use Rattle.must_base.specs.Listing.{Has, Lists}
+use Rattle.must_base.specs.ListingLaws.{rises_nil}
+use Rattle.must_wait.specs.Core.{blocked_at, holds, is_held, needs_at, kept_in}
 use Rattle.must_wait.specs.Keeping.{kept_call, behind, holds_yet, kept_count, IsKept, AllHeld}
 use Rattle.must_wait.specs.Needs.{Needs, Rows, needs_of}
 use Rattle.must_wait.specs.Replay.{reached, passed, IsBlocked, IsBlockedList}
-use Rattle.must_wait.proofs.Listed.{rises_last, has_more, has_last, has_or, less_is, same_place, listed_as}
+use Rattle.must_wait.proofs.Listed.{rises_last, has_more, has_last, has_or, less_is, same_place}
 use Rattle.must_wait.proofs.Rounds.{and_left, and_right, and_both, all_more, any_more, reached_to, reached_from}
 
 pub held_more : (p q : Place → Bool) → ((place : Place) → p place ≡ true → q place ≡ true) → (needs : Option Needs) → is_held p needs ≡ true → is_held q needs ≡ true
@@ -33,7 +34,7 @@ pub not_true : (b : Bool) → b ≡ false → not b ≡ true
 not_true true e = absurd (true≢false e)
 not_true false e = refl
 
-not_false : (b : Bool) → not b ≡ true → b ≡ false
+pub not_false : (b : Bool) → not b ≡ true → b ≡ false
 not_false true e = absurd (true≢false (sym e))
 not_false false e = refl
 
@@ -57,14 +58,14 @@ holds_to rows blocked n kept k q e =
     let unreached = not (reached rows (passed rows) q.rank q.call) in
     behind_kept rows q.rank q.call (kept_call kept q.rank) (k.all q.rank (and_right unreached (kept_in rows blocked n q.rank) e)) (k.calls q.rank) (not_false (reached rows (passed rows) q.rank q.call) (and_left unreached (kept_in rows blocked n q.rank) e))
 
-holds_from : (rows : Rows) (kept : List (Option ℕ)) (keeps : ℕ → Bool) → ((rank call : ℕ) → kept_call kept rank ≡ Some call → IsBlocked rows (record { rank = rank; call = call }))
+pub holds_from : (rows : Rows) (kept : List (Option ℕ)) (keeps : ℕ → Bool) → ((rank call : ℕ) → kept_call kept rank ≡ Some call → IsBlocked rows (record { rank = rank; call = call }))
     → ((rank : ℕ) → is_some (kept_call kept rank) ≡ true → keeps rank ≡ true) → (q : Place) → holds_yet kept q ≡ true → holds rows keeps q ≡ true
 holds_from rows kept keeps calls all q e =
     let b = kept_behind rows q.rank q.call (kept_call kept q.rank) (calls q.rank) e in
     and_both (not (reached rows (passed rows) q.rank q.call)) (keeps q.rank) (not_true (reached rows (passed rows) q.rank q.call) b.0) (all q.rank b.1)
 
 -- the blocked call that is found for a rank
-find_has : (xs : List Place) (rank : ℕ) (x : Place) → Has xs x → x.rank ≡ rank → (p : Place) × (find (λ (p : Place). nat_eq p.rank rank) xs ≡ Some p) × Has xs p × (p.rank ≡ rank)
+pub find_has : (xs : List Place) (rank : ℕ) (x : Place) → Has xs x → x.rank ≡ rank → (p : Place) × (find (λ (p : Place). nat_eq p.rank rank) xs ≡ Some p) × Has xs p × (p.rank ≡ rank)
 find_has [] rank x h e = absurd h
 find_has (y ∷ ys) rank x h e = elim (cases_Bool (nat_eq y.rank rank)) [
   | inl same ↦ (y, (rw same refl), inl refl, eqb-true y.rank rank same)
@@ -74,7 +75,7 @@ find_has (y ∷ ys) rank x h e = elim (cases_Bool (nat_eq y.rank rank)) [
   ]
 ]
 
-same_call : (rows : Rows) (rank a b : ℕ) → IsBlocked rows (record { rank = rank; call = a }) → IsBlocked rows (record { rank = rank; call = b }) → a ≡ b
+pub same_call : (rows : Rows) (rank a b : ℕ) → IsBlocked rows (record { rank = rank; call = a }) → IsBlocked rows (record { rank = rank; call = b }) → a ≡ b
 same_call rows rank a b one two = let low = reached_to rows rank a b one two.is_reached in let high = reached_to rows rank b a two one.is_reached in omega arith
 
 pub record Found (rows : Rows) (blocked : List Place) (rank call : ℕ) : Type 0 where
@@ -153,7 +154,7 @@ count_few [] = omega arith
 count_few (None ∷ kept) = omega (arith, sum_by-cons (λ (o : Option ℕ). cond (is_some o) 1 0) None kept, count_few kept)
 count_few (Some call ∷ kept) = omega (arith, sum_by-cons (λ (o : Option ℕ). cond (is_some o) 1 0) (Some call) kept, count_few kept)
 
-find_is : (xs : List Place) (rank : ℕ) → is_some (find (λ (p : Place). nat_eq p.rank rank) xs) ≡ true → (p : Place) × Has xs p × (p.rank ≡ rank)
+pub find_is : (xs : List Place) (rank : ℕ) → is_some (find (λ (p : Place). nat_eq p.rank rank) xs) ≡ true → (p : Place) × Has xs p × (p.rank ≡ rank)
 find_is [] rank e = absurd (true≢false (sym e))
 find_is (y ∷ ys) rank e = elim (cases_Bool (nat_eq y.rank rank)) [
   | inl same ↦ (y, inl refl, eqb-true y.rank rank same)
@@ -172,6 +173,9 @@ start_kept rows blocked kept len calls all = record {
 -- the list of kept ranks
 abbrev pub KeptBelow : List (Option ℕ) → ℕ → ℕ → Type 0
 KeptBelow kept at rank = (rank < at) × (is_some (kept_call kept rank) ≡ true)
+
+pub none_kept : (kept : List (Option ℕ)) → Lists nat_cmp (KeptBelow kept 0) []
+none_kept kept = record { rises = rises_nil nat_cmp; exact = λ x. (λ h. absurd h, λ h. absurd (omega (arith, h.0))) }
 
 pub kept_push : (kept : List (Option ℕ)) (at : ℕ) (ranks : List ℕ) → is_some (kept_call kept at) ≡ true → Lists nat_cmp (KeptBelow kept at) ranks → Lists nat_cmp (KeptBelow kept (at + 1)) (ranks ++ at ∷ [])
 kept_push kept at ranks e l = record {
@@ -202,10 +206,6 @@ kept_skip kept at ranks e l = record {
   );
 }
 
-pub core_listed : (rows : Rows) (blocked : List Place) (n : ℕ) (kept : List (Option ℕ)) (ranks : List ℕ) → IsBlockedList rows blocked → IsKept rows blocked n kept → AllHeld rows kept → Lists nat_cmp (λ rank. is_some (kept_call kept rank) ≡ true) ranks → IsCore rows blocked ranks
-core_listed rows blocked n kept ranks list k held =
-    listed_as nat_cmp (λ rank. is_some (kept_call kept rank) ≡ true) (λ rank. kept_in rows blocked (length rows) rank ≡ true) ranks (kept_core rows blocked n kept list k held) (core_kept rows blocked n kept k)
-
 -- the blocked calls, each at its rank
 pub set_calls : (blocked : List Place) (calls : List (Option ℕ)) (p : Place) → Has blocked p → p.rank < length calls
     → ((rank call : ℕ) → kept_call calls rank ≡ Some call → Has blocked (record { rank = rank; call = call }))
@@ -226,13 +226,3 @@ set_some calls at call rank inside h = elim (cases_eq rank at) [
     | inr same ↦ absurd (ne same)
   ]
 ]
-
-pub each_place : (P : Place → Type 0) (xs : List Place) → ((k : ℕ) (d : Place) → k < length xs → P (get_or xs k d)) → (x : Place) → Has xs x → P x
-each_place P [] all x h = absurd h
-each_place P (y ∷ ys) all x (inl e) = subst P (sym e) (all 0 y (omega arith))
-each_place P (y ∷ ys) all x (inr h) = each_place P ys (λ k d less. all (suc k) d (omega arith)) x h
-
-none_at : (n k : ℕ) → kept_call (replicate n None) k ≡ None
-none_at zero k = refl
-none_at (suc n) zero = refl
-none_at (suc n) (suc k) = none_at n k

@@ -49,6 +49,10 @@ ends (suc left) rows done s h = elim (some_opens rows done (length rows)) [
   | inl (at, w) ↦ (let more = one_more rows done at s w in ends left rows (set done at (slice_index done at + 1)) more.0 (omega (arith, more.1)))
 ]
 
+-- a replay that has ended
+pub ended : (rows : Rows) → (done : List ℕ) × IsSound rows done × IsClosed rows done
+ended rows = ends (call_count rows) rows (replicate (length rows) 0) (start_sound rows (replicate (length rows) 0) refl) (omega arith)
+
 -- a closed set has each passed call
 pub least : (rows : Rows) (m : Marks) → Within (next_round rows m) m → (round : ℕ) → Within (passed_in rows round) m
 least rows m closed zero rank call e = absurd (true≢false (sym e))
@@ -57,8 +61,7 @@ least rows m closed (suc round) rank call e = closed rank call (next_more rows (
 -- and the passed calls are closed
 pub closed : (rows : Rows) → Within (next_round rows (passed rows)) (passed rows)
 closed rows rank call e =
-    let none : List ℕ = replicate (length rows) 0 in
-    let l = ends (call_count rows) rows none (start_sound rows none refl) (omega arith) in
+    let l = ended rows in
     let done = l.0 in
     let n = next_more rows (passed rows) (counted done) (passed_to rows done l.2) rank call e in
     let r = and_left (reached rows (counted done) rank call) (some_way rows (counted done) (needs_of rows rank call)) n in

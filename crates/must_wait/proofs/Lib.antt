@@ -1,6 +1,12 @@
+pub mod BlockedRanks
+pub mod Codes
+pub mod CodedCore
+pub mod CodedRows
 pub mod Dropped
+pub mod Greatest
 pub mod Kept
 pub mod Least
 pub mod Listed
 pub mod Rounds
+pub mod Tables
 pub mod Watched

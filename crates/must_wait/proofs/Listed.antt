@@ -1,24 +1,24 @@
 -- Lists that are made rank by rank.
-use Rattle.std.proofs.Common.{◌≡◌, ℕ, ◌+◌, ◌<◌, ◌⊎◌, true, false, Result, Ok, Err, List, [], ◌∷◌, ◌++◌, refl, sym, ap, subst, ◌∙◌, inl, inr, arith, Ordering, Less, slice_index}
+use Rattle.std.proofs.Common.{◌≡◌, ℕ, zero, suc, length, get_or, ◌+◌, ◌<◌, ◌⊎◌, true, false, Result, Ok, Err, List, [], ◌∷◌, ◌++◌, refl, sym, ap, subst, ◌∙◌, inl, inr, arith, Ordering, Less, slice_index}
 use Rattle.std.specs.Cmp.{nat_cmp_is}
 use Rattle.std.specs.List.{AllByRecursion}
+use Rattle.std.specs.List.Sorted.{IsStrictlySortedBy}
 use Rattle.std.specs.Option.{is_some}
 use Rattle.std.specs.Result.{IfOk}
 use Rattle.std.specs.Ordering.{nat_cmp}
 use Rattle.std.proofs.lemmas.Bool.{cases_order, true≢false}
 use Rattle.must_call.specs.declared.place.Place.{Place}
-use Rattle.must_find.specs.Listing.{Has, Rises, Lists}
+use Rattle.must_base.specs.Listing.{Has, Rises, Lists}
 use Rattle.must_find.specs.Order.{by_spot}
-use Rattle.must_wait.specs.Counted.{IsSound, IsClosed, IsNext}
+use Rattle.must_wait.specs.Counted.{IsNext}
 use Rattle.must_wait.specs.Needs.{Rows, needs_of}
-use Rattle.must_wait.specs.Replay.{IsBlocked, IsBlockedList}
-use Rattle.must_wait.proofs.Rounds.{blocked_next, next_blocked}
 
 all_last : {X : Type 0} (P : X → Type 0) (xs : List X) (x : X) → AllByRecursion P xs → P x → AllByRecursion P (xs ++ x ∷ [])
 all_last P [] x all h = (h, tt)
 all_last P (y ∷ ys) x all h = (all.0, all_last P ys x all.1 h)
 
 pub rises_last : {X : Type 0} (order : X → X → Ordering) (xs : List X) (x : X) → Rises order xs → ((y : X) → Has xs y → order y x ≡ Less) → Rises order (xs ++ x ∷ [])
+unfolding IsStrictlySortedBy
 rises_last order [] x r h = (tt, tt)
 rises_last order (y ∷ ys) x r h = (all_last (λ z. order y z ≡ Less) ys x r.0 (h y (inl refl)), rises_last order ys x r.1 (λ z k. h z (inr k)))
 
@@ -26,6 +26,21 @@ pub has_more : {X : Type 0} (xs : List X) (x z : X) → Has xs z → Has (xs ++ 
 has_more [] x z h = absurd h
 has_more (y ∷ ys) x z (inl e) = inl e
 has_more (y ∷ ys) x z (inr h) = inr (has_more ys x z h)
+
+pub has_front : {X : Type 0} (xs ys : List X) (z : X) → Has xs z → Has (xs ++ ys) z
+has_front [] ys z h = absurd h
+has_front (x ∷ xs) ys z (inl e) = inl e
+has_front (x ∷ xs) ys z (inr h) = inr (has_front xs ys z h)
+
+pub each_item : {X : Type 0} (P : X → Type 0) (xs : List X) → ((k : ℕ) (d : X) → k < length xs → P (get_or xs k d)) → (x : X) → Has xs x → P x
+each_item P [] all x h = absurd h
+each_item P (y ∷ ys) all x (inl e) = subst P (sym e) (all 0 y (omega arith))
+each_item P (y ∷ ys) all x (inr h) = each_item P ys (λ k d less. all (suc k) d (omega arith)) x h
+
+pub has_get : {X : Type 0} (xs : List X) (k : ℕ) (d x : X) → k < length xs → x ≡ get_or xs k d → Has xs x
+has_get [] k d x h e = absurd (omega arith)
+has_get (y ∷ ys) zero d x h e = inl e
+has_get (y ∷ ys) (suc k) d x h e = inr (has_get ys k d x (omega arith) e)
 
 pub has_last : {X : Type 0} (xs : List X) (x : X) → Has (xs ++ x ∷ []) x
 has_last [] x = inl refl
@@ -40,7 +55,7 @@ has_or (y ∷ ys) x z (inr h) = elim (has_or ys x z h) [ inl k ↦ inl (inr k) |
 pub less_is : (a b : ℕ) → a < b → nat_cmp a b ≡ Less
 less_is a b h = sym (nat_cmp_is a b Less h)
 
-spot_less : (s t : Place) → s.rank < t.rank → by_spot s t ≡ Less
+pub spot_less : (s t : Place) → s.rank < t.rank → by_spot s t ≡ Less
 spot_less s t h = rw (less_is s.rank t.rank h) refl
 
 place_of : ℕ → ℕ → Place
@@ -58,6 +73,7 @@ abbrev pub NextBelow : Rows → List ℕ → ℕ → Place → Type 0
 NextBelow rows done at place = (place.rank < at) × IsNext rows done place
 
 pub no_next : (rows : Rows) (done : List ℕ) → Lists by_spot (NextBelow rows done 0) []
+unfolding IsStrictlySortedBy
 no_next rows done = record { rises = tt; exact = λ x. (λ h. absurd h, λ h. absurd (omega (arith, h.0))) }
 
 pub next_push : (rows : Rows) (done : List ℕ) (at : ℕ) (items more : List Place) (p : Place) → p.rank ≡ at → p.call ≡ slice_index done at → is_some (needs_of rows p.rank p.call) ≡ true → more ≡ items ++ p ∷ []
@@ -93,9 +109,6 @@ next_skip rows done at items none l = record {
 
 pub listed_as : {X : Type 0} (order : X → X → Ordering) (P Q : X → Type 0) (xs : List X) → ((x : X) → P x → Q x) → ((x : X) → Q x → P x) → Lists order P xs → Lists order Q xs
 listed_as order P Q xs to back l = record { rises = l.rises; exact = λ x. (λ h. to x ((l.exact x).0 h), λ h. (l.exact x).1 (back x h)) }
-
-pub blocked_listed : (rows : Rows) (done : List ℕ) (items : List Place) → IsSound rows done → IsClosed rows done → Lists by_spot (IsNext rows done) items → IsBlockedList rows items
-blocked_listed rows done items s closed = listed_as by_spot (IsNext rows done) (IsBlocked rows) items (next_blocked rows done s closed) (blocked_next rows done s closed)
 
 pub if_ok : {T E : Type 0} {P Q : T → Type 0} (r : Result T E) → ((x : T) → P x → Q x) → IfOk r P → IfOk r Q
 if_ok (Ok x) f h = f x h

@@ -1,7 +1,7 @@
 -- Steps of the worklist keep each alternative watched.
 use Rattle.std.proofs.Common.{◌≡◌, ℕ, zero, suc, ◌+◌, ◌<◌, ◌≤◌, ◌⊎◌, Bor, Result, Ok, Err, Bool, true, false, ◌||◌, List, [], ◌∷◌, ◌++◌, length, get_or, set, Option, Some, None, is_some, refl, sym, ap, subst, ◌∙◌, inl, inr, arith, slice_index, slice_get, slice_index_or, replicate}
 use Rattle.std.specs.List.{list_all, list_any}
-use Rattle.std.specs.Option.{option_copied}
+use Rattle.std.specs.Option.{option_copied, option_map}
 use Rattle.std.specs.Result.{OnOk}
 use Rattle.std.proofs.lemmas.Bool.{cases_order, cases_eq, cases_Bool, ltb-true, true≢false, false_from_ne_true}
 use Rattle.std.proofs.lemmas.List.{get_or-set_same, get_or-set_other, length-set, length-append, length-replicate, get_or_default}
@@ -9,7 +9,7 @@ use Rattle.std.proofs.Math.ListN.{get_or-append}
 use Rattle.std.proofs.Math.Seq.{get_or-append_seam}
 use Rattle.std.proofs.lemmas.Option.{slice_get_within, slice_get-get_or}
 use Rattle.must_call.specs.declared.place.Place.{Place}
-use Rattle.must_find.specs.Listing.{Has}
+use Rattle.must_base.specs.Listing.{Has}
 use Rattle.must_wait.specs.declared.worklist.Watch.{Watch}
 use Rattle.must_wait.specs.Needs.{Needs, Rows, calls_in, calls_of, needs_of}
 use Rattle.must_wait.specs.Replay.{Marks, follows, reached, some_way}
@@ -40,9 +40,6 @@ watch_more (v ∷ ws) w rank call way (inr h) = inr (watch_more ws w rank call w
 pub watch_last : (ws : List Watch) (w : Watch) → HasWatch (ws ++ w ∷ []) w.rank w.call w.way
 watch_last [] w = inl (refl, refl, refl)
 watch_last (v ∷ ws) w = inr (watch_last ws w)
-
-pub keeps_none : (rows : Rows) (s : State) → Keeps rows s s
-keeps_none rows s rank way = inr (refl, λ w. w)
 
 pub keeps_both : (rows : Rows) (s t u : State) → Keeps rows s t → Keeps rows t u → Keeps rows s u
 keeps_both rows s t u a b rank way = elim (b rank way) [
@@ -188,7 +185,7 @@ or_there : (a b : Bool) → b ≡ true → (a || b) ≡ true
 or_there true b e = refl
 or_there false b e = e
 
-any_at : {X : Type 0} (p : X → Bool) (xs : List X) (k : ℕ) (x : X) → slice_get xs k ≡ Some x → p x ≡ true → list_any p xs ≡ true
+pub any_at : {X : Type 0} (p : X → Bool) (xs : List X) (k : ℕ) (x : X) → slice_get xs k ≡ Some x → p x ≡ true → list_any p xs ≡ true
 any_at p [] k x e h = cc
 any_at p (y ∷ ys) zero x e h = let same : y ≡ x = cc in or_here (p y) (list_any p ys) (subst (λ z. p z ≡ true) (sym same) h)
 any_at p (y ∷ ys) (suc k) x e h = or_there (p y) (list_any p ys) (any_at p ys k x e h)
@@ -270,8 +267,12 @@ pub on_both : {T E A B C : Type 0} (r : Result T E) → (A → B → C) → OnOk
 on_both (Ok x) f a b = f a b
 on_both (Err e) f a b = a
 
-pub copied_is : (r : Option (Bor (List Place))) (p : Bor (List Place)) (o : Option (List Place)) → option_copied r ≡ o → r ≡ Some p → o ≡ Some p.now
-copied_is r p o e f = sym e ∙ ap option_copied f
+pub mapped_is : {X Y : Type 0} (f : X → Y) (r : Option X) (x : X) (o : Option Y) → option_map f r ≡ o → r ≡ Some x → o ≡ Some (f x)
+mapped_is f r x o e is = sym e ∙ ap (option_map f) is
+
+pub copied_some : {X : Type 0} (r : Option (Bor X)) → is_some (option_copied r) ≡ is_some r
+copied_some None = refl
+copied_some (Some p) = refl
 
 pub rank_of_way : (rows : Rows) (rank call way : ℕ) (places : List Place) → way_at rows rank call way ≡ Some places → rank < length rows
 rank_of_way rows rank call way places e = rank_in rows rank call (way_in_call (needs_of rows rank call) way places e)
@@ -336,7 +337,7 @@ each_watch (w ∷ ws) P all rank call way (inl (a, b, e)) = subst (λ k. P k cal
 each_watch (w ∷ ws) P all rank call way (inr h) = each_watch ws P (λ k d less. all (suc k) d (omega arith)) rank call way h
 
 -- at the end no alternative is left that could let a call pass
-any_where : {X : Type 0} (p : X → Bool) (xs : List X) → list_any p xs ≡ true → (k : ℕ) × (x : X) × (slice_get xs k ≡ Some x) × (p x ≡ true)
+pub any_where : {X : Type 0} (p : X → Bool) (xs : List X) → list_any p xs ≡ true → (k : ℕ) × (x : X) × (slice_get xs k ≡ Some x) × (p x ≡ true)
 any_where p [] e = absurd (true≢false (sym e))
 any_where p (x ∷ xs) e = elim (cases_Bool (p x)) [
   | inl h ↦ (0, x, refl, h)
@@ -348,7 +349,7 @@ all_has p [] x e h = absurd h
 all_has p (y ∷ ys) x e (inl same) = subst (λ z. p z ≡ true) (sym same) (and_left (p y) (list_all p ys) e)
 all_has p (y ∷ ys) x e (inr h) = all_has p ys x (and_right (p y) (list_all p ys) e) h
 
-some_open : (rows : Rows) (m : Marks) (needs : Option Needs) → some_way rows m needs ≡ true → (way : ℕ) × (places : List Place) × (slice_get (ways_in needs) way ≡ Some places) × (list_all (λ (p : Place). reached rows m p.rank p.call) places ≡ true)
+pub some_open : (rows : Rows) (m : Marks) (needs : Option Needs) → some_way rows m needs ≡ true → (way : ℕ) × (places : List Place) × (slice_get (ways_in needs) way ≡ Some places) × (list_all (λ (p : Place). reached rows m p.rank p.call) places ≡ true)
 some_open rows m None e = absurd (true≢false (sym e))
 some_open rows m (Some ways) e = any_where (list_all (λ (p : Place). reached rows m p.rank p.call)) ways e
 

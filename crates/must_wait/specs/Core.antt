@@ -3,7 +3,7 @@ use Rattle.std.specs.Prelude.{◌≡◌, ◌==◌, ℕ, zero, suc, Bool, true, f
 use Rattle.std.specs.List.{list_all, list_any}
 use Rattle.std.specs.Ordering.{nat_cmp}
 use Rattle.must_call.specs.declared.place.Place.{Place}
-use Rattle.must_find.specs.Listing.{Lists}
+use Rattle.must_base.specs.Listing.{Lists}
 use Rattle.must_wait.specs.Needs.{Needs, Rows, needs_of}
 use Rattle.must_wait.specs.Replay.{reached, passed}
 

@@ -2,7 +2,7 @@
 use Rattle.std.specs.Prelude.{◌≡◌, ◌==◌, ℕ, ◌+◌, ◌≤◌, ◌<◌, ◌⊎◌, ◌++◌, ◌∷◌, [], Bool, true, false, List, Option, Some, None, length, slice_set}
 use Rattle.std.specs.List.{slice_index_or}
 use Rattle.must_call.specs.declared.place.Place.{Place}
-use Rattle.must_find.specs.Listing.{Has}
+use Rattle.must_base.specs.Listing.{Has}
 use Rattle.must_wait.specs.declared.dropping.Dropping.{Dropping}
 use Rattle.must_wait.specs.declared.worklist.Watch.{Watch}
 use Rattle.must_wait.specs.Keeping.{kept_call, holds_yet, kept_count, IsKeptSome}

@@ -35,3 +35,8 @@ AllHeld rows kept = (rank call : ℕ) → kept_call kept rank ≡ Some call → 
 -- after some rounds
 abbrev pub IsKeptSome : Rows → List Place → List (Option ℕ) → Type 0
 IsKeptSome rows blocked kept = (rounds : ℕ) × IsKept rows blocked rounds kept
+
+-- these are the blocked calls of a run, each at its rank
+pub record AreBlocked (rows : Rows) (calls : List (Option ℕ)) : Type 0 where
+  pub are : (rank call : ℕ) → kept_call calls rank ≡ Some call → IsBlocked rows (record { rank = rank; call = call })
+  pub all : (rank call : ℕ) → IsBlocked rows (record { rank = rank; call = call }) → is_some (kept_call calls rank) ≡ true

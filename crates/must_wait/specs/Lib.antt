@@ -1,7 +1,12 @@
 pub mod Needs
 pub mod Replay
+pub mod Shared
+pub mod CodedWay
 pub mod Core
+pub mod CoreLaws
 pub mod Counted
 pub mod Dropping
+pub mod Held
 pub mod Keeping
 pub mod Watching
+pub mod Ways

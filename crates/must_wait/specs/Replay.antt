@@ -2,7 +2,7 @@
 use Rattle.std.specs.Prelude.{◌≡◌, ℕ, zero, suc, Bool, true, false, ◌&&◌, List, Option, Some, None, is_some}
 use Rattle.std.specs.List.{list_all, list_any}
 use Rattle.must_call.specs.declared.place.Place.{Place}
-use Rattle.must_find.specs.Listing.{Lists}
+use Rattle.must_base.specs.Listing.{Lists}
 use Rattle.must_find.specs.Order.{by_spot}
 use Rattle.must_wait.specs.Needs.{Needs, Rows, needs_of, call_count}
 

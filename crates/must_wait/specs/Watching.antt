@@ -2,7 +2,7 @@
 use Rattle.std.specs.Prelude.{◌≡◌, ℕ, ◌+◌, ◌≤◌, ◌<◌, ◌⊎◌, ◌^◌, ◌++◌, ◌∷◌, [], true, false, List, Option, Some, None, length, slice_index, slice_get, slice_set, is_some, sum}
 use Rattle.std.specs.List.{slice_index_or}
 use Rattle.must_call.specs.declared.place.Place.{Place}
-use Rattle.must_find.specs.Listing.{Has}
+use Rattle.must_base.specs.Listing.{Has}
 use Rattle.must_wait.specs.declared.worklist.Watch.{Watch}
 use Rattle.must_wait.specs.declared.worklist.Worklist.{Worklist}
 use Rattle.must_wait.specs.Counted.{counted, IsSound}

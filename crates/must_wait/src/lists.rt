@@ -1,23 +1,34 @@
 //! Lists in needs, which contracts see as lists.
 
-ghost use Rattle.std.specs.Prelude.{◌≡◌};
+ghost use Rattle.std.specs.Prelude.{◌≡◌, IfOk};
 
+use must_base::NoMemory;
 use must_call::Place;
+use std::alloc::Global;
 use std::marker::Model;
+use std::sync::Arc;
+
+/// Who holds the places of an alternative.
+#[derive(Drop)]
+enum Held {
+    Own(Vec<Place>),
+    Shared(Arc<Vec<Place>>),
+}
 
 /// The places of one alternative, all of which a call waits for.
 #[derive(Drop)]
 pub struct Places {
-    items: Vec<Place>,
+    held: Held,
 }
 
 impl Model for Places {
     ghost use Rattle.std.specs.Prelude.{List};
     ghost use Rattle.must_call.specs.declared.place.Place.{Place};
+    ghost use Rattle.must_wait.specs.Held.{held_places};
 
     ghost Value = { List Place };
 
-    ghost view = { λ l. l.items.items };
+    ghost view = { λ l. held_places l.held };
 }
 
 impl Places {
@@ -25,22 +36,65 @@ impl Places {
     pub fn from_vec(items: Vec<Place>) -> Self
         ensures { result ≡ items.items }
     {
-        Places { items }
+        Places {
+            held: Held::Own(items),
+        }
     }
 
     /// Lends the places.
     pub fn items(&self) -> &[Place]
         ensures { result.now ≡ self.now }
     {
-        &self.items
+        match &self.held {
+            Held::Own(items) => items.as_slice(),
+            Held::Shared(items) => items.as_slice(),
+        }
+    }
+}
+
+/// A list of places that alternatives share.
+#[derive(Drop)]
+pub(crate) struct SharedList {
+    items: Arc<Vec<Place>>,
+}
+
+impl Model for SharedList {
+    ghost use Rattle.std.specs.Prelude.{List};
+    ghost use Rattle.must_call.specs.declared.place.Place.{Place};
+
+    ghost Value = { List Place };
+
+    ghost view = { λ l. l.items.value.items };
+}
+
+impl SharedList {
+    /// The list of these places, to share.
+    pub(crate) fn of(alloc: Global, places: Places) -> Result<SharedList, NoMemory>
+        ensures { IfOk result (λ list. list ≡ places) }
+    {
+        let Places { held } = places;
+        match held {
+            Held::Own(items) => Ok(SharedList {
+                items: Arc::new(alloc, items)?,
+            }),
+            Held::Shared(items) => Ok(SharedList { items }),
+        }
     }
 
-    /// Gives the places back.
-    pub fn into_vec(self) -> Vec<Place>
-        ensures { result.items ≡ self }
+    /// Lends the places.
+    pub(crate) fn items(&self) -> &[Place]
+        ensures { result.now ≡ self.now }
     {
-        let Places { items } = self;
-        items
+        self.items.as_slice()
+    }
+
+    /// An alternative that shares the list. `NoMemory` comes only where there are too many of them to count.
+    pub(crate) fn places(&self) -> Result<Places, NoMemory>
+        ensures { IfOk result (λ places. places ≡ self.now) }
+    {
+        Ok(Places {
+            held: Held::Shared(Arc::try_clone(&self.items)?),
+        })
     }
 }
 

@@ -1,10 +1,12 @@
 //! The needs of a run's calls.
 
-ghost use Rattle.std.specs.Prelude.{◌≡◌, ℕ, ◌<◌, ◌≤◌, ◌^◌, ◌++◌, ◌∷◌, [], length, slice_set, replicate, IfOk, OnOk, OnErr};
+ghost use Rattle.std.specs.Prelude.{◌≡◌, ◌<◌, ◌^◌, ◌++◌, ◌∷◌, [], length, slice_set, replicate, IfOk, OnOk, OnErr};
 ghost use Rattle.std.specs.Option.{option_copied};
 ghost use Rattle.must_wait.specs.Needs.{calls_of, needs_of};
+ghost use Rattle.must_wait.specs.Shared.{IsTable};
 
 use crate::lists::Needs;
+use crate::shared::SharedRows;
 use must_base::NoMemory;
 use std::alloc::Global;
 use std::marker::Model;
@@ -12,43 +14,16 @@ use std::marker::Model;
 /// For each rank the needs of its calls in order.
 #[derive(Drop)]
 pub struct Rows {
-    ranks: Vec<RankRow>,
-}
-
-/// The needs of the calls of one rank.
-#[derive(Drop)]
-pub(crate) struct RankRow {
-    calls: Vec<Needs>,
-}
-
-impl Model for RankRow {
-    ghost use Rattle.std.specs.Prelude.{List};
-    ghost use Rattle.must_call.specs.declared.place.Place.{Place};
-
-    ghost Value = { List (List (List Place)) };
-
-    ghost view = { λ r. r.calls.items };
-}
-
-impl RankRow {
-    /// Lends the needs of the calls in order.
-    pub(crate) fn calls(&self) -> &[Needs]
-        ensures { result.now ≡ self.now }
-    {
-        &self.calls
-    }
+    shared: SharedRows,
 }
 
 impl Model for Rows {
-    ghost use Rattle.std.specs.Prelude.{List, length, ◌<◌, ◌≤◌, ◌^◌, ℕ};
+    ghost use Rattle.std.specs.Prelude.{List};
     ghost use Rattle.must_call.specs.declared.place.Place.{Place};
-    ghost use Rattle.must_wait.specs.Needs.{calls_of};
 
     ghost Value = { List (List (List (List Place))) };
 
-    ghost view = { λ r. r.ranks.items };
-
-    ghost invariant = { λ r. (length r.ranks.items < 2 ^ 32) × ((rank : ℕ) → length (calls_of r.ranks.items rank) ≤ 2 ^ 31) };
+    ghost view = { λ r. r.shared.needs };
 }
 
 impl Rows {
@@ -56,13 +31,16 @@ impl Rows {
     pub fn new(alloc: Global, ranks: u32) -> Result<Rows, NoMemory>
         ensures { IfOk result (λ rows. rows ≡ replicate ranks []) }
     {
-        let mut rows = Vec::with_capacity(alloc, ranks as usize)?;
-        for _rank in 0..ranks {
-            rows.push(RankRow {
-                calls: Vec::new(alloc),
-            })?;
-        }
-        Ok(Rows { ranks: rows })
+        Ok(Rows {
+            shared: SharedRows::new(alloc, ranks)?,
+        })
+    }
+
+    /// The rows whose calls share lists. It takes no memory.
+    pub fn from_shared(shared: SharedRows) -> Rows
+        ensures { result ≡ shared.needs }
+    {
+        Rows { shared }
     }
 
     /// Appends the needs of the next call of a rank. After `NoMemory` the rows are as before.
@@ -72,33 +50,28 @@ impl Rows {
         ensures ok { OnOk result (self.new ≡ slice_set self.old rank (calls_of self.old rank ++ needs ∷ [])) }
         ensures err { OnErr result (self.new ≡ self.old) }
     {
-        self.ranks[rank as usize].calls.push(needs)?;
-        Ok(())
+        self.shared.push_own(rank, needs)
     }
 
     /// How many ranks there are.
     pub fn ranks(&self) -> u32
         ensures { result ≡ length self.now }
     {
-        self.ranks.len() as u32
+        self.shared.ranks()
     }
 
     /// Lends the needs of a call, none exactly where there is no such call. It takes no memory.
     pub fn needs(&self, rank: u32, call: u32) -> Option<&Needs>
         ensures { option_copied result ≡ needs_of self.now rank call }
     {
-        match self.ranks.get(rank as usize) {
-            Some(row) => row.calls.get(call as usize),
-            None => None,
-        }
+        self.shared.needs(rank, call)
     }
 
-    /// Lends the rows of all ranks.
-    pub(crate) fn as_slice(&self) -> &[RankRow]
-        ensures rows { result.now ≡ self.now }
-        ensures ranks { length self.now < 2 ^ 32 }
-        ensures calls { (rank : ℕ) → length (calls_of self.now rank) ≤ 2 ^ 31 }
+    /// Lends the rows with what their calls share.
+    pub(crate) fn shared(&self) -> &SharedRows
+        ensures needs { result.now.needs ≡ self.now }
+        ensures valid { IsTable result.now }
     {
-        &self.ranks
+        self.shared.lend()
     }
 }

@@ -1,8 +1,9 @@
 //! Worked runs as needs, edges, large runs, and runs that are compared with the rounds of the definitions.
 
 ghost use Rattle.std.specs.Prelude.{◌<◌, ◌^◌, ℕ, length, IsTrue};
+ghost use Rattle.must_wait.specs.Replay.{IsBlockedList};
 
-use crate::{Needs, Places, Rows, core, replay};
+use crate::{Blocked, Needs, Places, Rows, SharedRows, Way, core, is_reached, replay};
 use must_base::NoMemory;
 use must_call::Place;
 use std::alloc::Global;
@@ -122,9 +123,9 @@ fn lists(rt: HostRuntime) -> Result<(), Fail> {
     let mut ways = needs.into_vec();
     assert_eq!(rt; ways.len(), 2);
     let last = ways.pop();
-    assert!(rt; last.is_some_and(|way| way.into_vec().is_empty()));
+    assert!(rt; last.is_some_and(|way| way.items().is_empty()));
     let first = ways.pop();
-    assert!(rt; first.is_some_and(|way| way.into_vec().len() == 2));
+    assert!(rt; first.is_some_and(|way| way.items().len() == 2));
     Ok(())
 }
 
@@ -343,6 +344,98 @@ fn many_turns(rt: HostRuntime) -> Result<(), Fail> {
     Ok(())
 }
 
+/// Two waves of three ranks, of which the last rank enters only the first, and waits for a list of its own that names a rank that
+/// isn't there.
+#[test]
+fn waves(rt: HostRuntime) -> Result<(), Fail> {
+    let alloc = rt.alloc();
+    let mut shared = SharedRows::new(alloc, 3)?;
+    for call in 0..2u32 {
+        let number = shared.share(way(alloc, &[(0, call), (1, call), (2, call)])?)?;
+        assert_eq!(rt; number, call);
+    }
+    assert_eq!(rt; shared.ranks(), 3);
+    assert_eq!(rt; shared.lists(), 2);
+    for rank in 0..3u32 {
+        let mut ways = Vec::new(alloc);
+        ways.push(Way::Shared(0))?;
+        push_ways(&rt, &mut shared, rank, ways)?;
+    }
+    for rank in 0..2u32 {
+        let mut ways = Vec::new(alloc);
+        ways.push(Way::Shared(1))?;
+        push_ways(&rt, &mut shared, rank, ways)?;
+    }
+    let mut ways = Vec::new(alloc);
+    ways.push(Way::Own(way(alloc, &[(3, 1)])?))?;
+    assert!(rt; shared.has_lists(&ways));
+    ways.push(Way::Shared(2))?;
+    assert!(rt; !shared.has_lists(&ways));
+    ways.pop();
+    push_ways(&rt, &mut shared, 2, ways)?;
+    assert!(rt; shared.needs(2, 2).is_none());
+    assert!(rt;
+        shared.needs(1, 1).is_some_and(|needs| needs
+            .items()
+            .iter()
+            .all(|way| way.items().len() == 3))
+    );
+    let rows = Rows::from_shared(shared);
+    expect(&rt, alloc, &rows, &[(2, 1)], &[])?;
+    Ok(())
+}
+
+/// Two ranks that wait for a wave, which a third never enters since it waits for a later call of theirs.
+#[test]
+fn stuck_wave(rt: HostRuntime) -> Result<(), Fail> {
+    let alloc = rt.alloc();
+    let mut shared = SharedRows::new(alloc, 4)?;
+    let wave = shared.share(way(alloc, &[(0, 0), (1, 0), (2, 1)])?)?;
+    for rank in 0..2u32 {
+        let mut ways = Vec::new(alloc);
+        ways.push(Way::Shared(wave))?;
+        push_ways(&rt, &mut shared, rank, ways)?;
+    }
+    let mut ways = Vec::new(alloc);
+    ways.push(Way::Own(way(alloc, &[(0, 1)])?))?;
+    push_ways(&rt, &mut shared, 2, ways)?;
+    let mut ways = Vec::new(alloc);
+    ways.push(Way::Shared(wave))?;
+    ways.push(Way::Own(way(alloc, &[(4, 0)])?))?;
+    push_ways(&rt, &mut shared, 3, ways)?;
+    let rows = Rows::from_shared(shared);
+    expect(
+        &rt,
+        alloc,
+        &rows,
+        &[(0, 0), (1, 0), (2, 0), (3, 0)],
+        &[0, 1, 2],
+    )?;
+    Ok(())
+}
+
+/// 64 ranks that meet in 1,000 waves.
+#[test]
+fn many_waves(rt: HostRuntime) -> Result<(), Fail> {
+    let alloc = rt.alloc();
+    let mut shared = SharedRows::new(alloc, 64)?;
+    for call in 0..1_000u32 {
+        let mut places = Vec::with_capacity(alloc, 64)?;
+        for rank in 0..64u32 {
+            places.push(Place { rank, call })?;
+        }
+        let number = shared.share(Places::from_vec(places))?;
+        for rank in 0..64u32 {
+            let mut ways = Vec::with_capacity(alloc, 1)?;
+            ways.push(Way::Shared(number))?;
+            push_ways(&rt, &mut shared, rank, ways)?;
+        }
+    }
+    let rows = Rows::from_shared(shared);
+    expect(&rt, alloc, &rows, &[], &[])?;
+    Ok(())
+}
+
 /// Numbers that look like chance.
 #[derive(Clone, Copy)]
 struct Chance {
@@ -363,24 +456,52 @@ impl Chance {
     }
 }
 
-fn any_needs(alloc: Global, chance: &mut Chance, count: u32) -> Result<Needs, NoMemory>
+fn any_places(alloc: Global, chance: &mut Chance, count: u32) -> Result<Places, NoMemory>
+    requires { count < 16 }
+{
+    let mut places = Vec::new(alloc);
+    for _place in 0..chance.below(4) {
+        let rank = chance.below(count + 1);
+        let call = chance.below(5);
+        places.push(Place { rank, call })?;
+    }
+    Ok(Places::from_vec(places))
+}
+
+/// Alternatives by chance, of which about half share lists.
+fn any_ways(
+    alloc: Global,
+    chance: &mut Chance,
+    count: u32,
+    lists: u32,
+) -> Result<Vec<Way>, NoMemory>
     requires { count < 16 }
 {
     let mut ways = Vec::new(alloc);
     for _way in 0..chance.below(4) {
-        let mut places = Vec::new(alloc);
-        for _place in 0..chance.below(4) {
-            let rank = chance.below(count + 1);
-            let call = chance.below(5);
-            places.push(Place { rank, call })?;
+        if lists > 0 && chance.below(2) == 0 {
+            ways.push(Way::Shared(chance.below(lists)))?;
+        } else {
+            ways.push(Way::Own(any_places(alloc, chance, count)?))?;
         }
-        ways.push(Places::from_vec(places))?;
     }
-    Ok(Needs::from_vec(ways))
+    Ok(ways)
+}
+
+fn push_ways(
+    rt: &impl Abort,
+    rows: &mut SharedRows,
+    rank: u32,
+    ways: Vec<Way>,
+) -> Result<(), NoMemory> {
+    assert!(rt; rank < rows.ranks());
+    assert!(rt; rows.needs(rank, 2_147_483_647).is_none());
+    assert!(rt; rows.has_lists(&ways));
+    rows.push(rank, ways)
 }
 
 /// Whether a place is a reached call, where these calls are passed.
-fn is_reached(rows: &Rows, passed: &[Place], place: Place) -> bool {
+fn reaches(rows: &Rows, passed: &[Place], place: Place) -> bool {
     let before = match place.call.checked_sub(1) {
         Some(call) => passed.contains(&Place {
             rank: place.rank,
@@ -394,13 +515,13 @@ fn is_reached(rows: &Rows, passed: &[Place], place: Place) -> bool {
 fn is_open(rows: &Rows, passed: &[Place], way: &Places) -> bool {
     way.items()
         .iter()
-        .all(|place| is_reached(rows, passed, *place))
+        .all(|place| reaches(rows, passed, *place))
 }
 
 /// Whether a call is passed in the round behind the one that passed these.
 fn passes(rows: &Rows, passed: &[Place], place: Place) -> bool {
     match rows.needs(place.rank, place.call) {
-        Some(needs) => is_reached(rows, passed, place)
+        Some(needs) => reaches(rows, passed, place)
             && needs.items().iter().any(|way| is_open(rows, passed, way)),
         None => false,
     }
@@ -422,7 +543,7 @@ fn passed_by_rounds(alloc: Global, rows: &Rows, calls: &[Place]) -> Result<Vec<P
 }
 
 fn holds(rows: &Rows, passed: &[Place], kept: &[Place], place: Place) -> bool {
-    !is_reached(rows, passed, place) && kept.iter().any(|call| call.rank == place.rank)
+    !reaches(rows, passed, place) && kept.iter().any(|call| call.rank == place.rank)
 }
 
 fn is_held(rows: &Rows, passed: &[Place], kept: &[Place], place: Place) -> bool {
@@ -459,6 +580,27 @@ fn kept_by_rounds(
     Ok(kept)
 }
 
+/// Checks which places are reached, those that are no call among them.
+fn expect_reached(
+    rt: &impl Abort,
+    rows: &Rows,
+    passed: &[Place],
+    blocked: &Blocked,
+) -> Result<(), NoMemory>
+    requires { IsBlockedList rows.now blocked.now }
+{
+    for rank in 0..6u32 {
+        for call in 0..6u32 {
+            let place = Place { rank, call };
+            assert_eq!(rt;
+                is_reached(rows, blocked, place),
+                reaches(rows, passed, place)
+            );
+        }
+    }
+    Ok(())
+}
+
 /// Runs by chance, compared with the rounds.
 #[test]
 fn as_the_rounds(rt: HostRuntime) -> Result<(), Fail> {
@@ -467,23 +609,30 @@ fn as_the_rounds(rt: HostRuntime) -> Result<(), Fail> {
     let mut waiting = 0usize;
     for _run in 0..2_000u32 {
         let count = chance.below(4) + 1;
-        let mut rows = Rows::new(alloc, count)?;
+        let mut shared = SharedRows::new(alloc, count)?;
+        for _list in 0..chance.below(4) {
+            shared.share(any_places(alloc, &mut chance, count)?)?;
+        }
+        let lists = shared.lists();
         let mut calls = Vec::new(alloc);
         for rank in 0..count {
             for call in 0..chance.below(5) {
-                push(&rt, &mut rows, rank, any_needs(alloc, &mut chance, count)?)?;
+                let ways = any_ways(alloc, &mut chance, count, lists)?;
+                push_ways(&rt, &mut shared, rank, ways)?;
                 calls.push(Place { rank, call })?;
             }
         }
+        let rows = Rows::from_shared(shared);
         let passed = passed_by_rounds(alloc, &rows, &calls)?;
         let mut want = Vec::new(alloc);
         for place in &calls {
-            if is_reached(&rows, &passed, *place) && !passed.contains(place) {
+            if reaches(&rows, &passed, *place) && !passed.contains(place) {
                 want.push(*place)?;
             }
         }
         let found = replay(alloc, &rows)?;
         assert_eq!(rt; found.items(), want.as_slice());
+        expect_reached(&rt, &rows, &passed, &found)?;
         let kept = kept_by_rounds(alloc, &rows, &passed, &want)?;
         let mut ranks = Vec::new(alloc);
         for place in &kept {

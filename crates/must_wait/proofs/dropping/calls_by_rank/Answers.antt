@@ -4,7 +4,8 @@ use Rattle.std.proofs.lemmas.Bool.{cases_order}
 use Rattle.std.proofs.lemmas.List.{length-set, get_or_default}
 use Rattle.must_call.specs.declared.place.Place.{Place}
 use Rattle.must_wait.specs.Keeping.{kept_call}
-use Rattle.must_wait.proofs.Kept.{set_calls, set_some, each_place}
+use Rattle.must_wait.proofs.Kept.{set_calls, set_some}
+use Rattle.must_wait.proofs.Listed.{each_item}
 use Rattle.must_wait.proofs.Watched.{has_at}
 use Rattle.must_wait.proofs.dropping.calls_by_rank.Goals as goal
 
@@ -32,4 +33,4 @@ loop-place-preserved c =
     }
 
 pub returns-clause-all : goal.returns-clause-all
-returns-clause-all c = each_place (λ (p : Place). is_some (kept_call c.loop-place.calls.items p.rank) ≡ true) c.args.blocked.now (λ k d less. c.loop-place.invariant.all k d (omega arith))
+returns-clause-all c = each_item (λ (p : Place). is_some (kept_call c.loop-place.calls.items p.rank) ≡ true) c.args.blocked.now (λ k d less. c.loop-place.invariant.all k d (omega arith))

@@ -1,7 +1,7 @@
 use Rattle.std.proofs.Common.{◌≡◌, ℕ, ◌<◌, true, Some, length, get_or}
 use Rattle.std.specs.Option.{is_some}
 use Rattle.must_call.specs.declared.place.Place.{Place}
-use Rattle.must_find.specs.Listing.{Has}
+use Rattle.must_base.specs.Listing.{Has}
 use Rattle.must_wait.specs.Keeping.{kept_call}
 use Rattle.must_wait.proofs.dropping.calls_by_rank.Given as goal
 

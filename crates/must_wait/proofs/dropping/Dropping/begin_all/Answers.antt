@@ -7,13 +7,14 @@ use Rattle.must_wait.specs.Dropping.{core_state, WasLooked}
 use Rattle.must_wait.specs.Keeping.{kept_call}
 use Rattle.must_wait.specs.Needs.{needs_of}
 use Rattle.must_wait.specs.Watching.{ways_in}
+use Rattle.must_wait.specs.Shared.{coded}
+use Rattle.must_wait.proofs.Listed.{each_item}
 use Rattle.must_wait.proofs.Dropped.{both_core_steps, still_looked, is_at}
-use Rattle.must_wait.proofs.Kept.{each_place}
 use Rattle.must_wait.proofs.dropping.Dropping.begin_all.Goals as goal
 
 pub loop-place-preserved : goal.loop-place-preserved
 loop-place-preserved c =
-    let rows = c.args.rows.now in
+    let rows = (coded c.args.rows.now) in
     let blocked = c.args.blocked.now in
     let s = core_state c.loop-place.self in
     let t = core_state c.begin.new.self in
@@ -37,16 +38,16 @@ loop-place-preserved c =
 
 pub returns-clause-held : goal.returns-clause-held
 returns-clause-held c = λ rank way call places k w.
-    let rows = c.args.rows.now in
+    let rows = (coded c.args.rows.now) in
     let t = core_state c.loop-place.self in
     let has = c.requires.blocked rank call (c.loop-place.invariant.steps.less rank call k) in
-    each_place (λ (p : Place). (way : ℕ) → way < length (ways_in (needs_of rows p.rank p.call)) → WasLooked rows t p.rank p.call way) c.args.blocked.now (λ j d less. c.loop-place.invariant.looked j d (omega arith))
+    each_item (λ (p : Place). (way : ℕ) → way < length (ways_in (needs_of rows p.rank p.call)) → WasLooked rows t p.rank p.call way) c.args.blocked.now (λ j d less. c.loop-place.invariant.looked j d (omega arith))
     (record { rank = rank; call = call }) has way (slice_get_within (ways_in (needs_of rows rank call)) way places w) k call places k w
 
 pub returns-clause-ways : goal.returns-clause-ways
 returns-clause-ways c = λ rank call k.
-    let rows = c.args.rows.now in
+    let rows = (coded c.args.rows.now) in
     let t = core_state c.loop-place.self in
     let has = c.requires.blocked rank call (c.loop-place.invariant.steps.less rank call k) in
-    each_place (λ (p : Place). kept_call t.kept p.rank ≡ Some p.call → 0 < length (ways_in (needs_of rows p.rank p.call))) c.args.blocked.now (λ j d less. c.loop-place.invariant.ways j d (omega arith))
+    each_item (λ (p : Place). kept_call t.kept p.rank ≡ Some p.call → 0 < length (ways_in (needs_of rows p.rank p.call))) c.args.blocked.now (λ j d less. c.loop-place.invariant.ways j d (omega arith))
     (record { rank = rank; call = call }) has k
