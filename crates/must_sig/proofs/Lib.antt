@@ -1,0 +1,8 @@
+mod Periods
+mod Ahead
+mod Matching
+mod Flat
+mod Laying
+mod Merged
+mod Trees
+mod Rooms
