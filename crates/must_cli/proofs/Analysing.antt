@@ -12,14 +12,16 @@ use Rattle.must_format.specs.declared.fault.StreamFault.{StreamFault}
 use Rattle.must_format.specs.declared.fault.StreamFault.TheVariants as fault
 use Rattle.must_format.specs.Stream.{Accepted}
 use Rattle.must_find.specs.declared.finding.Finding.{Finding}
-use Rattle.must_find.specs.Listing.{Rises}
+use Rattle.must_base.specs.Listing.{Rises}
 use Rattle.must_find.specs.Order.{by_all}
 use Rattle.must_rules.specs.Run.{Strict}
 use Rattle.must_rules.specs.Walk.{HasRowsBefore}
 use Rattle.must_rules.specs.WalkLaws.{at_start, at_end}
 use Rattle.must_rules.specs.StreamRuns.{AreComplete, run_of, next_rank}
-use Rattle.must_cli.specs.Outside.{Part, flat, told_at, parts_of, HasFailed}
-use Rattle.must_cli.specs.Promises.{AreTold, AreAccepted, ReadsRun, RunRows}
+use Rattle.must_base.specs.Views.{SourceView, unread}
+use Rattle.must_cli.specs.Outside.{flat, told_at, HasFailed, IsLeftOf, AreTied, ShowsNoRefusal}
+use Rattle.must_cli.proofs.Reading.{left_unread}
+use Rattle.must_cli.specs.Promises.{AreTold, AreAccepted, ReadsRun, RunRows, StopsAt}
 use Rattle.must_cli.specs.Walk.{ReadsRank, IsFaultOf, HasRowsBelow, Analyses, fault_at}
 
 -- ---- the bytes of a rank
@@ -43,13 +45,57 @@ stream_at streams k within = (get_or streams k [], slice_get-get_or streams k []
 
 -- ---- the parts
 
-part_same : (p q : Part) → Some p ≡ Some q → p ≡ q
+abbrev pub parts_of : {S : Type 0} → (S → Option (List ℕ)) → (S → ℕ) → List S → List SourceView
+parts_of {S} left faults ps = map {B = SourceView} (λ (p : S). record { left = left p; faults = faults p }) ps
+
+-- what the parts show, by the two that it is made of
+pub parts_shown : {S : Type 0} (shows : S → SourceView) (left : S → Option (List ℕ)) (faults : S → ℕ) → ((s : S) → shows s ≡ record { left = left s; faults = faults s })
+    → (ps : List S) → map shows ps ≡ parts_of left faults ps
+parts_shown shows left faults is [] = refl
+parts_shown shows left faults is (p ∷ ps) =
+    let first = is p in
+    let rest = parts_shown shows left faults is ps in
+    cc
+
+-- ---- parts that were bound: by what they show, they are unread
+
+first_same : {X : Type 0} (x y : X) (xs ys : List X) → x ∷ xs ≡ y ∷ ys → (x ≡ y) × (xs ≡ ys)
+first_same x y xs ys e = (cc, cc)
+
+nothing_same : {X : Type 0} (x : X) (xs : List X) → x ∷ xs ≡ [] → ⊥
+nothing_same x xs e = cc
+
+nothing_more : {X : Type 0} (x : X) (xs : List X) → [] ≡ x ∷ xs → ⊥
+nothing_more x xs e = cc
+
+pub record Unread {S N : Type 0} (left : S → Option (List ℕ)) (faults : S → ℕ) (told : N → Option (List ℕ)) (ps : List S) (names : List N) : Type 0 where
+  pub bytes : map left ps ≡ map told names
+  pub fresh : AllByRecursion (λ p. faults p ≡ 0) ps
+
+pub bound_unread : {S N : Type 0} (shows : S → SourceView) (left : S → Option (List ℕ)) (faults : S → ℕ) → ((s : S) → shows s ≡ record { left = left s; faults = faults s }) → (told : N → Option (List ℕ))
+    → (ps : List S) (names : List N) → map shows ps ≡ map (λ name. unread (told name)) names → Unread left faults told ps names
+bound_unread shows left faults is told [] [] e = record { bytes = refl; fresh = tt }
+bound_unread shows left faults is told [] (n ∷ names) e = absurd (nothing_more _ _ e)
+bound_unread shows left faults is told (p ∷ ps) [] e = absurd (nothing_same _ _ e)
+bound_unread shows left faults is told (p ∷ ps) (n ∷ names) e =
+    let here = first_same _ _ _ _ e in
+    let seen = sym (is p) ∙ here.0 in
+    let first : left p ≡ told n = ap (λ (v : SourceView). v.left) seen in
+    let rest = bound_unread shows left faults is told ps names here.1 in
+    let others = rest.bytes in
+    record { bytes = cc; fresh = (ap (λ (v : SourceView). v.faults) seen, rest.fresh) }
+
+pick : {S : Type 0} (ps : List S) (k : ℕ) → k < length ps → S
+pick [] k within = absurd (omega (arith, within))
+pick (p ∷ ps) k within = p
+
+part_same : (p q : SourceView) → Some p ≡ Some q → p ≡ q
 part_same p q e = cc
 
 pub part_at : {S : Type 0} (left : S → Option (List ℕ)) (faults : S → ℕ) (ps : List S) (k : ℕ) (d : S) → k < length ps
     → slice_get (parts_of left faults ps) k ≡ Some (record { left = left (get_or ps k d); faults = faults (get_or ps k d) })
 part_at {S} left faults ps k d within =
-    let seen : S → Part = λ p. record { left = left p; faults = faults p } in
+    let seen : S → SourceView = λ p. record { left = left p; faults = faults p } in
     slice_get-map seen ps k ∙ ap (option_map seen) (slice_get-get_or ps k d within)
 
 -- ---- the analysis so far
@@ -59,6 +105,7 @@ pub record Analysing {S : Type 0} (left : S → Option (List ℕ)) (faults : S �
   pub unread : (q : ℕ) (d : S) → k ≤ q → get_or ps q d ≡ get_or first q d
   pub accepted : AreAccepted (map left first) k
   pub read : (q : ℕ) (d : S) (bytes : List ℕ) → q < k → told_at (map left first) q ≡ Some bytes → left (get_or ps q d) ≡ Some []
+  pub tied : (q : ℕ) (d : S) (bytes : List ℕ) → q < k → told_at (map left first) q ≡ Some bytes → IsLeftOf bytes (left (get_or ps q d))
   pub rows : (streams : List (List ℕ)) → AreTold (map left first) streams → HasRowsBelow streams k fs
 
 pub at_first : {S : Type 0} (left : S → Option (List ℕ)) (faults : S → ℕ) (ps : List S) → Analysing left faults ps ps 0 []
@@ -67,12 +114,16 @@ at_first left faults ps = record {
   unread = λ q d h. refl;
   accepted = λ q h. absurd (omega (arith, h));
   read = λ q d bytes h e. absurd (omega (arith, h));
+  tied = λ q d bytes h e. absurd (omega (arith, h));
   rows = λ streams told run mode records. at_start run mode;
 }
 
 -- what reading a rank promises
 abbrev pub Reads : {S : Type 0} → (S → Option (List ℕ)) → ℕ → ℕ → S → S → List Finding → List Finding → Type 0
 Reads left k n old new fs more = (bytes : List ℕ) → left old ≡ Some bytes → ReadsRank k n bytes fs more × (left new ≡ Some [])
+
+abbrev pub Ties : {S : Type 0} → (S → Option (List ℕ)) → S → S → Type 0
+Ties left old new = (bytes : List ℕ) → left old ≡ Some bytes → IsLeftOf bytes (left new)
 
 length_told : {S : Type 0} (left : S → Option (List ℕ)) (first : List S) (streams : List (List ℕ)) → AreTold (map left first) streams → length streams ≡ length first
 length_told left first streams told = sym (length-map streams Some) ∙ sym (ap length told) ∙ length-map first left
@@ -87,9 +138,16 @@ rows_more left first k old new fs more streams within is reads told below run mo
     let accepted : Accepted k (length streams) s.0 r.calls = subst (λ (m : ℕ). Accepted k m s.0 r.calls) (sym n) r.accepted in
     next_rank streams run mode k s.0 r.calls fs more records s.1 accepted (subst (λ (m : ℕ). Rattle.must_rules.specs.Walk.Walks m k r.calls fs more) (sym n) r.walks) (below run mode records)
 
+tied_at : {S : Type 0} (left : S → Option (List ℕ)) (first ps : List S) (k q : ℕ) (e d new : S) (bytes : List ℕ) → k < length ps → q ≡ k → get_or ps k d ≡ get_or first k d → k < length first → Ties left (get_or ps k d) new
+    → told_at (map left first) q ≡ Some bytes → IsLeftOf bytes (left (get_or (set ps k new) q e))
+tied_at {S} left first ps k q e d new bytes here same unread within ties told =
+    let there : get_or (set ps k new) q e ≡ new = ap (λ m. get_or (set ps k new) m e) same ∙ get_or-set_same ps k new e here in
+    let was : left (get_or ps k d) ≡ Some bytes = ap left unread ∙ sym (told_is left first k d within) ∙ ap (λ m. told_at (map left first) m) (sym same) ∙ told in
+    subst (λ (s : S). IsLeftOf bytes (left s)) (sym there) (ties bytes was)
+
 pub one_more : {S : Type 0} (left : S → Option (List ℕ)) (faults : S → ℕ) (first ps : List S) (k : ℕ) (fs more : List Finding) (d new : S)
-    → k < length first → Reads left k (length first) (get_or ps k d) new fs more → Analysing left faults first ps k fs → Analysing left faults first (set ps k new) (k + 1) more
-one_more left faults first ps k fs more d new within reads w =
+    → k < length first → Reads left k (length first) (get_or ps k d) new fs more → Ties left (get_or ps k d) new → Analysing left faults first ps k fs → Analysing left faults first (set ps k new) (k + 1) more
+one_more {S} left faults first ps k fs more d new within reads ties w =
     let here : k < length ps = omega (arith, w.length_is, within) in
     let is = told_is left first k d within ∙ ap left (sym (w.unread k d (omega arith))) in
     record {
@@ -105,6 +163,11 @@ one_more left faults first ps k fs more d new within reads w =
       read = λ q e bytes h told. elim (cases_order q k) [
         | inl same ↦ ap left (ap (λ m. get_or (set ps k new) m e) same ∙ get_or-set_same ps k new e here) ∙ (reads bytes (sym is ∙ ap (λ m. told_at (map left first) m) (sym same) ∙ told)).1
         | inr (inl less) ↦ ap left (get_or-set_other ps k q new e (λ same. omega (arith, same, less))) ∙ w.read q e bytes less told
+        | inr (inr far) ↦ absurd (omega (arith, h))
+      ];
+      tied = λ q e bytes h told. elim (cases_order q k) [
+        | inl same ↦ tied_at left first ps k q e d new bytes here same (w.unread k d (omega arith)) within ties told
+        | inr (inl less) ↦ subst (λ (s : S). IsLeftOf bytes (left s)) (sym (get_or-set_other ps k q new e (λ same. omega (arith, same, less)))) (w.tied q e bytes less told)
         | inr (inr far) ↦ absurd (omega (arith, h))
       ];
       rows = λ streams told. rows_more left first k (get_or ps k d) new fs more streams within is reads told (w.rows streams told);
@@ -136,18 +199,46 @@ at_last {S} left faults first ps k fs far rises w =
     let accepted : AreAccepted (map left first) (length (map left first)) = λ q h. w.accepted q (omega (arith, n, h, far)) in
     record {
       accepted = accepted;
-      read = λ q bytes part told is.
-          let within = told_within (map left first) q bytes told in
-          let here = slice_get_read left faults ps q part is in
-          here.1 (w.read q here.0 bytes (omega (arith, n, within, far)) told);
+      read = λ q bytes told.
+          let within : q < length ps = omega (arith, told_within (map left first) q bytes told, n, w.length_is) in
+          let d = pick ps q within in (
+            record { left = left (get_or ps q d); faults = faults (get_or ps q d) },
+            part_at left faults ps q d within,
+            w.read q d bytes (omega (arith, within, w.length_is, far)) told,
+          );
       of_run = λ streams told. whole_run (map left first) k fs streams (omega (arith, n, far)) told accepted (w.rows streams told) rises;
     }
-  where
-    slice_get_read : {S : Type 0} (left : S → Option (List ℕ)) (faults : S → ℕ) (ps : List S) (q : ℕ) (part : Part) → slice_get (parts_of left faults ps) q ≡ Some part
-        → (d : S) × (left (get_or ps q d) ≡ Some [] → part.left ≡ Some [])
-    slice_get_read left faults [] q part is = let no : None ≡ Some part = is in absurd cc
-    slice_get_read left faults (p ∷ ps) zero part is = (p, λ e. ap (λ (r : Part). r.left) (sym (part_same (record { left = left p; faults = faults p }) part is)) ∙ e)
-    slice_get_read left faults (p ∷ ps) (suc q) part is = slice_get_read left faults ps q part is
+
+-- each part is that of its file
+tied_from : {S : Type 0} (left : S → Option (List ℕ)) (faults : S → ℕ) (first ps : List S) → length ps ≡ length first
+    → ((q : ℕ) (d : S) (bytes : List ℕ) → q < length first → told_at (map left first) q ≡ Some bytes → IsLeftOf bytes (left (get_or ps q d))) → AreTied (map left first) (parts_of left faults ps)
+tied_from {S} left faults first ps len tied =
+    let seen : S → SourceView = λ p. record { left = left p; faults = faults p } in
+    record {
+      count = length-map ps seen ∙ len ∙ sym (length-map first left);
+      each = λ q bytes told.
+          let within : q < length ps = omega (arith, told_within (map left first) q bytes told, length-map first left, len) in
+          let d = pick ps q within in (
+            record { left = left (get_or ps q d); faults = faults (get_or ps q d) },
+            part_at left faults ps q d within,
+            tied q d bytes (omega (arith, within, len)) told,
+          );
+    }
+
+pub tied_at_last : {S : Type 0} (left : S → Option (List ℕ)) (faults : S → ℕ) (first ps : List S) (k : ℕ) (fs : List Finding) → length first ≤ k → Analysing left faults first ps k fs → AreTied (map left first) (parts_of left faults ps)
+tied_at_last left faults first ps k fs far w = tied_from left faults first ps w.length_is (λ q d bytes within told. w.tied q d bytes (omega (arith, within, far)) told)
+
+pub tied_at_fault : {S : Type 0} (left : S → Option (List ℕ)) (faults : S → ℕ) (first ps : List S) (k : ℕ) (d new : S) (fs : List Finding) → k < length first → Ties left (get_or ps k d) new → Analysing left faults first ps k fs
+    → AreTied (map left first) (parts_of left faults (set ps k new))
+tied_at_fault {S} left faults first ps k d new fs within ties w =
+    let here : k < length ps = omega (arith, w.length_is, within) in
+    tied_from left faults first (set ps k new) (length-set ps k new ∙ w.length_is) (λ q e bytes inside told. elim (cases_order q k) [
+      | inl same ↦ tied_at left first ps k q e d new bytes here same (w.unread k d (omega arith)) within ties told
+      | inr (inl less) ↦ subst (λ (s : S). IsLeftOf bytes (left s)) (sym (get_or-set_other ps k q new e (λ same. omega (arith, same, less)))) (w.tied q e bytes less told)
+      | inr (inr more) ↦
+          (let unread : get_or (set ps k new) q e ≡ get_or first q e = get_or-set_other ps k q new e (λ same. omega (arith, same, more)) ∙ w.unread q e (omega (arith, more)) in
+          subst (λ (s : S). IsLeftOf bytes (left s)) (sym unread) (left_unread bytes (left (get_or first q e)) (sym (told_is left first q e inside) ∙ told)))
+    ])
 
 -- ---- a fault
 
@@ -156,39 +247,45 @@ none_risen faults [] k d all within = absurd (omega arith)
 none_risen faults (p ∷ ps) zero d all within = all.0
 none_risen faults (p ∷ ps) (suc k) d all within = none_risen faults ps k d all.1 (omega arith)
 
-refused_at : {S : Type 0} (left : S → Option (List ℕ)) (first : List S) (k : ℕ) (old : S) (f : StreamFault) → told_at (map left first) k ≡ left old
-    → ((bytes : List ℕ) → left old ≡ Some bytes → IsFaultOf k (length first) bytes f) → (bytes : List ℕ) → told_at (map left first) k ≡ Some bytes → IsFaultOf k (length (map left first)) bytes f
-refused_at left first k old f is faulty bytes told = subst (λ (m : ℕ). IsFaultOf k m bytes f) (sym (length-map first left)) (faulty bytes (sym is ∙ told))
+refused_at : {S : Type 0} (left : S → Option (List ℕ)) (first : List S) (k : ℕ) (old : S) (after : Option (List ℕ)) (f : StreamFault) → told_at (map left first) k ≡ left old
+    → ((bytes : List ℕ) → left old ≡ Some bytes → IsFaultOf k (length first) bytes after f) → (bytes : List ℕ) → told_at (map left first) k ≡ Some bytes → IsFaultOf k (length (map left first)) bytes after f
+refused_at left first k old after f is faulty bytes told = subst (λ (m : ℕ). IsFaultOf k m bytes after f) (sym (length-map first left)) (faulty bytes (sym is ∙ told))
 
 read_at : {S : Type 0} (left : S → Option (List ℕ)) (faults : S → ℕ) (first ps : List S) (k : ℕ) (d new : S) (fs : List Finding)
     → k < length first → AllByRecursion (λ p. faults p ≡ 0) first → Analysing left faults first ps k fs → Rose (faults (get_or ps k d)) (faults new)
-    → (part : Part) × (slice_get (parts_of left faults (set ps k new)) k ≡ Some part) × HasFailed part
-read_at left faults first ps k d new fs within fresh w rose =
+    → ((bytes : List ℕ) → told_at (map left first) k ≡ Some bytes → ShowsNoRefusal k (length (map left first)) bytes (left new))
+    → StopsAt (map left first) (parts_of left faults (set ps k new)) k fault.Read
+read_at left faults first ps k d new fs within fresh w rose shows =
     let here : k < length (set ps k new) = omega (arith, length-set ps k new, w.length_is, within) in
     let same = get_or-set_same ps k new d (omega (arith, w.length_is, within)) in
     let was : faults (get_or ps k d) ≡ 0 = ap faults (w.unread k d (omega arith)) ∙ none_risen faults first k d fresh within in (
       record { left = left (get_or (set ps k new) k d); faults = faults (get_or (set ps k new) k d) },
       part_at left faults (set ps k new) k d here,
       subst (λ (m : ℕ). Rose 0 m) (ap faults (sym same)) (subst (λ (m : ℕ). Rose m (faults new)) was rose),
+      λ bytes told. subst (λ (o : Option (List ℕ)). ShowsNoRefusal k (length (map left first)) bytes o) (ap left (sym same)) (shows bytes told),
     )
 
 pub at_fault : {S : Type 0} (left : S → Option (List ℕ)) (faults : S → ℕ) (first ps : List S) (k : ℕ) (d new : S) (fs : List Finding) (f : StreamFault)
     → k < length first → AllByRecursion (λ p. faults p ≡ 0) first → Analysing left faults first ps k fs
-    → ((bytes : List ℕ) → left (get_or ps k d) ≡ Some bytes → IsFaultOf k (length first) bytes f)
+    → ((bytes : List ℕ) → left (get_or ps k d) ≡ Some bytes → IsFaultOf k (length first) bytes (left new) f)
     → (f ≡ fault.Read → Rose (faults (get_or ps k d)) (faults new))
     → Analyses (map left first) (parts_of left faults (set ps k new)) (Err (fault_at k f))
 at_fault left faults first ps k d new fs (fault.Malformed at c) within fresh w faulty rose =
     record {
       within = omega (arith, length-map first left, within);
       lower = w.accepted;
-      stops = refused_at left first k (get_or ps k d) (fault.Malformed at c) (told_is left first k d within ∙ ap left (sym (w.unread k d (omega arith)))) faulty;
+      stops = refused_at left first k (get_or ps k d) (left new) (fault.Malformed at c) (told_is left first k d within ∙ ap left (sym (w.unread k d (omega arith)))) faulty;
     }
 at_fault left faults first ps k d new fs (fault.Bound at l) within fresh w faulty rose =
     record {
       within = omega (arith, length-map first left, within);
       lower = w.accepted;
-      stops = refused_at left first k (get_or ps k d) (fault.Bound at l) (told_is left first k d within ∙ ap left (sym (w.unread k d (omega arith)))) faulty;
+      stops = refused_at left first k (get_or ps k d) (left new) (fault.Bound at l) (told_is left first k d within ∙ ap left (sym (w.unread k d (omega arith)))) faulty;
     }
 at_fault left faults first ps k d new fs fault.Read within fresh w faulty rose =
-    record { within = omega (arith, length-map first left, within); lower = w.accepted; stops = read_at left faults first ps k d new fs within fresh w (rose refl) }
+    record {
+      within = omega (arith, length-map first left, within);
+      lower = w.accepted;
+      stops = read_at left faults first ps k d new fs within fresh w (rose refl) (refused_at left first k (get_or ps k d) (left new) fault.Read (told_is left first k d within ∙ ap left (sym (w.unread k d (omega arith)))) faulty);
+    }
 at_fault left faults first ps k d new fs fault.NoMemory within fresh w faulty rose = tt

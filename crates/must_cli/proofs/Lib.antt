@@ -1,4 +1,5 @@
-pub mod Pieces
+pub mod Short
+pub mod Put
 pub mod Shown
 pub mod Reading
 pub mod Analysing

@@ -12,8 +12,9 @@ use Rattle.must_rules.specs.Streams.{Records}
 use Rattle.must_cli.specs.declared.status.Status.{Status}
 use Rattle.must_cli.specs.declared.status.Status.TheVariants as status
 use Rattle.must_cli.specs.Command.{Check, command}
-use Rattle.must_cli.specs.Outside.{Part, Output, Outside, told_at}
-use Rattle.must_cli.specs.Promises.{Promises, Answers, IsSuccess, IsRefusal, is_found, status_for, IsAccepted, IsRefused, IsKnownAccepted, IsKnownRefused, StopsAt, WholeReport, RefusedStream, OutsideFault, WantOfMemory, RefusesLowest, ReportsComplete}
+use Rattle.must_base.specs.Views.{SourceView}
+use Rattle.must_cli.specs.Outside.{Output, Outside, told_at, AreTied}
+use Rattle.must_cli.specs.Promises.{World, met, err_of, Promises, Answers, IsSuccess, IsRefusal, is_found, status_for, IsAccepted, IsRefused, IsKnownAccepted, IsKnownRefused, StopsAt, WholeReport, RefusedStream, OutsideFault, WantOfMemory, RefusesLowest, ReportsComplete}
 use Rattle.must_cli.proofs.Analysing.{told_within, told_of, stream_at}
 
 not_both : (told : List (Option (List ℕ))) (rank : ℕ) (f : StreamFault) → IsAccepted told rank → IsKnownRefused told rank f → ⊥
@@ -23,7 +24,7 @@ not_both told rank f accepted refused =
 
 -- ---- a refusal
 
-is_refusal : (told : List (Option (List ℕ))) (parts : List Part) (rank : ℕ) (f : StreamFault) → IsRefusal (status_for f) → StopsAt told parts rank f → IsRefused told rank f
+is_refusal : (told : List (Option (List ℕ))) (parts : List SourceView) (rank : ℕ) (f : StreamFault) → IsRefusal (status_for f) → StopsAt told parts rank f → IsRefused told rank f
 is_refusal told parts rank (fault.Malformed at c) is stops = stops
 is_refusal told parts rank (fault.Bound at l) is stops = stops
 is_refusal told parts rank fault.Read is stops = absurd is
@@ -126,20 +127,22 @@ memory_from o err s a e = subst (λ (t : Status). Answers o err t) e a
 usage_from : (o : Outside) (err : Output) (s : Status) → Answers o err s → s ≡ status.Usage → ⊥
 usage_from o err s a e = subst (λ (t : Status). Answers o err t) e a
 
-pub promises_from : (words files : List (List ℕ)) (told : List (List ℕ) → List (Option (List ℕ))) (bound : List (List ℕ)) (parts : List Part) (out err : Output) (answer : Status)
-    → command words ≡ Some (Check files) → Answers (record { told = told files; parts = parts; out = out }) err answer → (answer ≢ status.NoMemory → bound ≡ files)
-    → Promises words told bound parts out err answer
-promises_from words files told bound parts out err answer is a names =
-    let o : List (List ℕ) → Outside = λ fs. record { told = told fs; parts = parts; out = out } in
+pub promises_from : (words files : List (List ℕ)) (told : List (List ℕ) → List (Option (List ℕ))) (before after : World) (answer : Status)
+    → command words ≡ Some (Check files) → Answers (met told before after files) (err_of before after) answer → (answer ≢ status.NoMemory → after.names ≡ files)
+    → (answer ≢ status.NoMemory → AreTied (told files) after.parts) → Promises words told before after answer
+promises_from words files told before after answer is a names tied =
+    let o : List (List ℕ) → Outside = met told before after in
+    let err = err_of before after in
+    let same : (others : List (List ℕ)) → command words ≡ Some (Check others) → files ≡ others = λ others e. same_files files others (sym is ∙ e) in
     let at : (others : List (List ℕ)) → command words ≡ Some (Check others) → Answers (o others) err answer = λ others e.
-    subst (λ (fs : List (List ℕ)). Answers (o fs) err answer) (same_files files others (sym is ∙ e)) a in
+    subst (λ (fs : List (List ℕ)). Answers (o fs) err answer) (same others e) a in
     record {
       refused_words = record {
         exact = (λ e. absurd (usage_from (o files) err answer a e), λ e. absurd (none_files files (sym is ∙ e)));
         nothing = λ e. absurd (usage_from (o files) err answer a e);
         line = λ e. absurd (usage_from (o files) err answer a e);
       };
-      names = λ others e enough. names enough ∙ same_files files others (sym is ∙ e);
+      files = λ others e enough. record { names = names enough ∙ same others e; parts = subst (λ (fs : List (List ℕ)). AreTied (told fs) after.parts) (same others e) (tied enough) };
       whole_report = λ others e. whole_from (o others) err answer (at others e);
       refused_stream = λ others e. refused_from (o others) err answer (at others e);
       outside_fault = λ others e. outside_from (o others) err answer (at others e);

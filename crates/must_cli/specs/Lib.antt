@@ -1,3 +1,4 @@
+pub mod Numbers
 pub mod Command
 pub mod Lines
 pub mod Outside

@@ -16,10 +16,10 @@ memory_line = codes "out of memory\n"
 
 -- the first bad place of a rank's stream, in words: what is wrong there, its offset, and the cause or limit
 unfoldable pub place_line : ℕ → List ℕ → ℕ → List ℕ → List ℕ
-place_line rank what at name = (codes "rank " ++ decimal rank) ++ ((what ++ decimal at) ++ ((codes ": " ++ name) ++ codes "\n"))
+place_line rank what at name = codes "rank " ++ decimal rank ++ what ++ decimal at ++ codes ": " ++ name ++ codes "\n"
 
 unfoldable pub read_line : ℕ → List ℕ
-read_line rank = (codes "rank " ++ decimal rank) ++ codes " read failed\n"
+read_line rank = codes "rank " ++ decimal rank ++ codes " read failed\n"
 
 -- the line for the fault of a rank's stream
 abbrev pub fault_line : ℕ → StreamFault → List ℕ

@@ -1,8 +1,7 @@
 -- The promises of the program: what each answer says of the run, and which answer is forced. What is said of a rank's
 -- bytes holds where they are told.
 use Rattle.std.specs.Prelude.{◌≡◌, ◌≢◌, ◌⊎◌, ◌↔◌, ℕ, ◌<◌, Bool, true, false, IsTrue, List, [], length, map, Option, Some, None, slice_get}
-use Rattle.std.specs.Io.KnownBytes.{Appends}
-use Rattle.must_base.specs.Causes.{Rose, AppendsFront}
+use Rattle.must_base.specs.Views.{SourceView, SinkView, PutsAll, PutsFront}
 use Rattle.must_call.specs.declared.call.Call.{Call}
 use Rattle.must_format.specs.declared.fault.StreamFault.{StreamFault}
 use Rattle.must_format.specs.declared.fault.StreamFault.TheVariants as fault
@@ -16,7 +15,7 @@ use Rattle.must_rules.specs.Streams.{Records}
 use Rattle.must_cli.specs.declared.status.Status.{Status}
 use Rattle.must_cli.specs.declared.status.Status.TheVariants as status
 use Rattle.must_cli.specs.Command.{Check, command}
-use Rattle.must_cli.specs.Outside.{Part, Output, Outside, told_at, IsUnchanged, HasFailed, Puts}
+use Rattle.must_cli.specs.Outside.{Output, Outside, outside, told_at, IsUnchanged, HasFailed, HasCut, Puts, ShowsNoRefusal, AreTied}
 use Rattle.must_cli.specs.Lines.{usage_line, fault_line, write_line, memory_line}
 
 -- ---- statuses
@@ -60,7 +59,8 @@ status_for fault.NoMemory = status.NoMemory
 
 -- the stream of a rank is complete
 abbrev pub IsAccepted : List (Option (List ℕ)) → ℕ → Type 0
-IsAccepted told rank = (bytes : List ℕ) → told_at told rank ≡ Some bytes → (calls : List Call) × Accepted rank (length told) bytes calls
+IsAccepted told rank = (bytes : List ℕ) → told_at told rank ≡ Some bytes
+    → (calls : List Call) × Accepted rank (length told) bytes calls
 
 -- those of all ranks below this one are complete
 abbrev pub AreAccepted : List (Option (List ℕ)) → ℕ → Type 0
@@ -68,7 +68,8 @@ AreAccepted told rank = (lower : ℕ) → lower < rank → IsAccepted told lower
 
 -- the stream of a rank is refused, and this is its first bad place
 abbrev pub IsRefused : List (Option (List ℕ)) → ℕ → StreamFault → Type 0
-IsRefused told rank fault = (bytes : List ℕ) → told_at told rank ≡ Some bytes → Refused rank (length told) bytes fault
+IsRefused told rank fault =
+    (bytes : List ℕ) → told_at told rank ≡ Some bytes → Refused rank (length told) bytes fault
 
 -- the bytes of every file are told: these
 abbrev pub AreTold : List (Option (List ℕ)) → List (List ℕ) → Type 0
@@ -83,20 +84,23 @@ pub record RunRows (streams : List (List ℕ)) (rows : List Finding) : Type 0 wh
   pub are_rows : IsRows run Strict rows
 
 -- Every stream was read to its end and is complete, and these are the rows of the run.
-pub record ReadsRun (told : List (Option (List ℕ))) (parts : List Part) (rows : List Finding) : Type 0 where
+pub record ReadsRun (told : List (Option (List ℕ))) (parts : List SourceView) (rows : List Finding) : Type 0 where
   pub accepted : AreAccepted told (length told)
-  pub read : (rank : ℕ) (bytes : List ℕ) (part : Part) → told_at told rank ≡ Some bytes → slice_get parts rank ≡ Some part → part.left ≡ Some []
+  pub read : (rank : ℕ) (bytes : List ℕ) → told_at told rank ≡ Some bytes
+      → (part : SourceView) × (slice_get parts rank ≡ Some part) × (part.left ≡ Some [])
   pub of_run : (streams : List (List ℕ)) → AreTold told streams → RunRows streams rows
 
--- why a rank stops a check: its stream is refused at its first bad place, or a read of it failed
-abbrev pub StopsAt : List (Option (List ℕ)) → List Part → ℕ → StreamFault → Type 0
+-- Why a rank stops a check: its stream is refused at its first bad place, or a read of it failed, and what was taken shows no
+-- refusal but that the stream ends too early.
+abbrev pub StopsAt : List (Option (List ℕ)) → List SourceView → ℕ → StreamFault → Type 0
 StopsAt told parts rank (fault.Malformed at cause) = IsRefused told rank (fault.Malformed at cause)
 StopsAt told parts rank (fault.Bound at limit) = IsRefused told rank (fault.Bound at limit)
-StopsAt told parts rank fault.Read = (part : Part) × (slice_get parts rank ≡ Some part) × HasFailed part
+StopsAt told parts rank fault.Read = (part : SourceView) × (slice_get parts rank ≡ Some part) × HasFailed part
+    × ((bytes : List ℕ) → told_at told rank ≡ Some bytes → ShowsNoRefusal rank (length told) bytes part.left)
 StopsAt told parts rank fault.NoMemory = ⊥
 
 -- A rank stops the check: the streams of all lower ranks are complete.
-pub record Stops (told : List (Option (List ℕ))) (parts : List Part) (rank : ℕ) (fault : StreamFault) : Type 0 where
+pub record Stops (told : List (Option (List ℕ))) (parts : List SourceView) (rank : ℕ) (fault : StreamFault) : Type 0 where
   pub within : rank < length told
   pub lower : AreAccepted told rank
   pub stops : StopsAt told parts rank fault
@@ -105,13 +109,12 @@ pub record Stops (told : List (Option (List ℕ))) (parts : List Part) (rank : �
 
 -- the report of these rows was put, and it has a line of a finding exactly where `found`
 pub record Writes (out : Output) (rows : List Finding) (found : Bool) : Type 0 where
-  pub written : Appends out.old out.new (report_of usual_severities rows)
+  pub written : PutsAll out.old out.new (report_of usual_severities rows)
   pub found_if : IsTrue found ↔ (0 < length (shown usual_severities rows))
 
 -- a front of the report of these rows was put, since a put failed
-pub record Cuts (out : Output) (rows : List Finding) : Type 0 where
-  pub rose : Rose out.before out.after
-  pub written : AppendsFront out.old out.new (report_of usual_severities rows)
+abbrev pub Cuts : Output → List Finding → Type 0
+Cuts out rows = PutsFront out.old out.new (report_of usual_severities rows)
 
 -- ---- the answers of a check
 
@@ -165,28 +168,34 @@ pub record RefusedWords (words : List (List ℕ)) (out err : Output) (answer : S
 
 -- the bytes of a rank's file are told, and its stream is complete
 abbrev pub IsKnownAccepted : List (Option (List ℕ)) → ℕ → Type 0
-IsKnownAccepted told rank = (bytes : List ℕ) × (told_at told rank ≡ Some bytes) × ((calls : List Call) × Accepted rank (length told) bytes calls)
+IsKnownAccepted told rank =
+    (bytes : List ℕ) × (told_at told rank ≡ Some bytes) × ((calls : List Call) × Accepted rank (length told) bytes calls)
 
 -- the bytes of a rank's file are told, and its stream is refused
 abbrev pub IsKnownRefused : List (Option (List ℕ)) → ℕ → StreamFault → Type 0
-IsKnownRefused told rank fault = (bytes : List ℕ) × (told_at told rank ≡ Some bytes) × Refused rank (length told) bytes fault
+IsKnownRefused told rank fault =
+    (bytes : List ℕ) × (told_at told rank ≡ Some bytes) × Refused rank (length told) bytes fault
 
 -- each part that failed is one of a higher rank
-abbrev pub FailedAbove : List Part → ℕ → Type 0
-FailedAbove parts rank = (other : ℕ) (part : Part) → slice_get parts other ≡ Some part → HasFailed part → rank < other
+abbrev pub FailedAbove : List SourceView → ℕ → Type 0
+FailedAbove parts rank = (other : ℕ) (part : SourceView) → slice_get parts other ≡ Some part → HasFailed part
+    → rank < other
 
 -- no part failed
-abbrev pub NoneFailed : List Part → Type 0
-NoneFailed parts = (rank : ℕ) (part : Part) → slice_get parts rank ≡ Some part → HasFailed part → ⊥
+abbrev pub NoneFailed : List SourceView → Type 0
+NoneFailed parts = (rank : ℕ) (part : SourceView) → slice_get parts rank ≡ Some part → HasFailed part → ⊥
 
 -- The lowest refused rank is refused unless a read failed at it or below it, or there was no memory.
 abbrev pub RefusesLowest : Outside → Status → Type 0
-RefusesLowest o answer = (rank : ℕ) (fault : StreamFault) → ((lower : ℕ) → lower < rank → IsKnownAccepted o.told lower) → IsKnownRefused o.told rank fault → FailedAbove o.parts rank
+RefusesLowest o answer = (rank : ℕ) (fault : StreamFault)
+    → ((lower : ℕ) → lower < rank → IsKnownAccepted o.told lower) → IsKnownRefused o.told rank fault
+    → FailedAbove o.parts rank
     → (answer ≡ status_for fault) ⊎ (answer ≡ status.NoMemory)
 
 -- Complete streams are reported unless a read or a put failed, or there was no memory.
 abbrev pub ReportsComplete : Outside → Status → Type 0
-ReportsComplete o answer = (streams : List (List ℕ)) (run : Run) → AreTold o.told streams → Records streams run → NoneFailed o.parts → (Rose o.out.before o.out.after → ⊥)
+ReportsComplete o answer = (streams : List (List ℕ)) (run : Run) → AreTold o.told streams → Records streams run
+    → NoneFailed o.parts → (HasCut o.out → ⊥)
     → IsSuccess answer ⊎ (answer ≡ status.NoMemory)
 
 -- Completeness: the answer is forced by the bytes and the counts.
@@ -196,16 +205,43 @@ pub record Completeness (o : Outside) (answer : Status) : Type 0 where
 
 -- ---- all promises
 
--- What the program promises: `told` gives the bytes of files by their names, `bound` are the names that were bound, `parts`
--- their parts at the end.
-pub record Promises (words : List (List ℕ)) (told : List (List ℕ) → List (Option (List ℕ))) (bound : List (List ℕ)) (parts : List Part) (out err : Output) (answer : Status) : Type 0 where
-  pub refused_words : RefusedWords words out err answer
-  pub names : (files : List (List ℕ)) → command words ≡ Some (Check files) → answer ≢ status.NoMemory → bound ≡ files
-  pub whole_report : (files : List (List ℕ)) → command words ≡ Some (Check files) → IsSuccess answer → WholeReport (record { told = told files; parts = parts; out = out }) err (is_found answer)
-  pub refused_stream : (files : List (List ℕ)) → command words ≡ Some (Check files) → IsRefusal answer → RefusedStream (record { told = told files; parts = parts; out = out }) err answer
-  pub outside_fault : (files : List (List ℕ)) → command words ≡ Some (Check files) → answer ≡ status.Outside → OutsideFault (record { told = told files; parts = parts; out = out }) err
-  pub want_of_memory : answer ≡ status.NoMemory → WantOfMemory out err
-  pub completeness : (files : List (List ℕ)) → command words ≡ Some (Check files) → Completeness (record { told = told files; parts = parts; out = out }) answer
+-- the outside at one time: the names that are bound, their parts, the output, and the error stream
+pub record World : Type 0 where
+  pub names : List (List ℕ)
+  pub parts : List SourceView
+  pub out : SinkView
+  pub err : SinkView
+
+abbrev pub world : List (List ℕ) → List SourceView → SinkView → SinkView → World
+world names parts out err = record { names = names; parts = parts; out = out; err = err }
+
+-- what a check of these files met
+abbrev pub met : (List (List ℕ) → List (Option (List ℕ))) → World → World → List (List ℕ) → Outside
+met told before after files = outside (told files) after.parts (record { old = before.out; new = after.out })
+
+abbrev pub err_of : World → World → Output
+err_of before after = record { old = before.err; new = after.err }
+
+-- the files are bound, in order, and each part is that of its file
+pub record IsBound (told : List (Option (List ℕ))) (files : List (List ℕ)) (after : World) : Type 0 where
+  pub names : after.names ≡ files
+  pub parts : AreTied told after.parts
+
+-- What the program promises where `told` gives the bytes of files by their names.
+pub record Promises (words : List (List ℕ)) (told : List (List ℕ) → List (Option (List ℕ))) (before after : World) (answer : Status) : Type 0 where
+  pub refused_words : RefusedWords words (record { old = before.out; new = after.out }) (err_of before after) answer
+  pub files : (files : List (List ℕ)) → command words ≡ Some (Check files) → answer ≢ status.NoMemory
+      → IsBound (told files) files after
+  pub whole_report : (files : List (List ℕ)) → command words ≡ Some (Check files) → IsSuccess answer
+      → WholeReport (met told before after files) (err_of before after) (is_found answer)
+  pub refused_stream : (files : List (List ℕ)) → command words ≡ Some (Check files) → IsRefusal answer
+      → RefusedStream (met told before after files) (err_of before after) answer
+  pub outside_fault : (files : List (List ℕ)) → command words ≡ Some (Check files) → answer ≡ status.Outside
+      → OutsideFault (met told before after files) (err_of before after)
+  pub want_of_memory : answer ≡ status.NoMemory
+      → WantOfMemory (record { old = before.out; new = after.out }) (err_of before after)
+  pub completeness : (files : List (List ℕ)) → command words ≡ Some (Check files)
+      → Completeness (met told before after files) answer
 
 -- ---- the same by status, as the check of files gives it
 

@@ -7,7 +7,8 @@ use Rattle.must_format.specs.Stream.{Accepted, Refused}
 use Rattle.must_find.specs.declared.finding.Finding.{Finding}
 use Rattle.must_cli.specs.declared.walk.RunFault.{RunFault}
 use Rattle.must_cli.specs.declared.walk.RunFault.TheVariants as run_fault
-use Rattle.must_cli.specs.Outside.{Part}
+use Rattle.must_base.specs.Views.{SourceView}
+use Rattle.must_cli.specs.Outside.{ShowsNoRefusal}
 use Rattle.must_cli.specs.Promises.{ReadsRun, Stops}
 use Rattle.must_rules.specs.Run.{Run, Mode}
 use Rattle.must_rules.specs.Streams.{Records}
@@ -19,19 +20,19 @@ pub record ReadsRank (rank n : ℕ) (bytes : List ℕ) (old new : List Finding) 
   pub accepted : Accepted rank n bytes calls
   pub walks : Walks n rank calls old new
 
--- a fault that the bytes show is the stream's refusal
-abbrev pub IsFaultOf : ℕ → ℕ → List ℕ → StreamFault → Type 0
-IsFaultOf rank n bytes (fault.Malformed at cause) = Refused rank n bytes (fault.Malformed at cause)
-IsFaultOf rank n bytes (fault.Bound at limit) = Refused rank n bytes (fault.Bound at limit)
-IsFaultOf rank n bytes fault.Read = Unit {0}
-IsFaultOf rank n bytes fault.NoMemory = Unit {0}
+-- A fault that the bytes show is the stream's refusal; where a read failed, what was taken shows none.
+abbrev pub IsFaultOf : ℕ → ℕ → List ℕ → Option (List ℕ) → StreamFault → Type 0
+IsFaultOf rank n bytes left (fault.Malformed at cause) = Refused rank n bytes (fault.Malformed at cause)
+IsFaultOf rank n bytes left (fault.Bound at limit) = Refused rank n bytes (fault.Bound at limit)
+IsFaultOf rank n bytes left fault.Read = ShowsNoRefusal rank n bytes left
+IsFaultOf rank n bytes left fault.NoMemory = Unit {0}
 
 -- the rows of the ranks below this one, in each run that the streams record
 abbrev pub HasRowsBelow : List (List ℕ) → ℕ → List Finding → Type 0
 HasRowsBelow streams rank fs = (run : Run) (mode : Mode) → Records streams run → HasRowsBefore run mode rank 0 fs
 
 -- what an analysis of the streams answers
-abbrev pub Analyses : List (Option (List ℕ)) → List Part → Result (List Finding) RunFault → Type 0
+abbrev pub Analyses : List (Option (List ℕ)) → List SourceView → Result (List Finding) RunFault → Type 0
 Analyses told parts (Ok rows) = ReadsRun told parts rows
 Analyses told parts (Err (run_fault.Stream rank fault)) = Stops told parts rank fault
 Analyses told parts (Err run_fault.NoMemory) = Unit {0}

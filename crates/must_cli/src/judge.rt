@@ -6,14 +6,8 @@ ghost use Rattle.must_rules.specs.Peers.{members, is_position, is_null, is_null_
 ghost use Rattle.must_rules.specs.Walk.{Adds, IsAnswer, IsOfCall};
 
 use must_base::NoMemory;
-use must_call::{Body, Call, Place, Point};
+use must_call::{ANY_SOURCE, Body, COMM_SELF, COMM_WORLD, Call, PROC_NULL, Place, Point};
 use must_find::{Finding, Findings, Rule};
-
-/// `MPI_PROC_NULL` as it is recorded.
-const PROC_NULL: i32 = -1;
-
-/// `MPI_ANY_SOURCE` as it is recorded.
-const ANY_SOURCE: i32 = -2;
 
 /// The see and the value of a finding.
 type Answer = (Option<Place>, i128);
@@ -43,8 +37,8 @@ fn member_count(size: u32, comm: u32) -> Option<u32>
     ensures { result ≡ members size comm }
 {
     match comm {
-        1 => Some(size),
-        2 => Some(1),
+        COMM_WORLD => Some(size),
+        COMM_SELF => Some(1),
         _ => None,
     }
 }

@@ -1,97 +1,89 @@
-//! The lines on the error stream. They take no memory.
+//! The lines on the error stream. Each is made in a buffer on the stack and put at once. They take no memory.
 
-ghost use Rattle.std.specs.Prelude.{◌≡◌, ◌++◌, codes};
+ghost use Rattle.std.specs.Prelude.{◌≡◌, ◌≤◌, ◌++◌, length, codes};
 ghost use Rattle.std.specs.Fmt.{decimal};
-ghost use Rattle.must_base.specs.Causes.{HasCause, PutAppends};
+ghost use Rattle.must_base.specs.Views.{PutsSome};
 ghost use Rattle.must_cli.specs.Lines.{place_line, read_line, fault_line, usage_line, write_line, memory_line};
 
+use arrayvec::ArrayString;
 use itoa::Buffer;
-use must_base::{Failed, Sink};
+use must_base::Sink;
 use must_format::StreamFault;
 
-fn put_pair<E: Sink>(err: &mut E, first: &str, second: &str) -> Result<(), Failed>
-    ensures bytes { PutAppends (E.held err.old) (E.held err.new) result (first.now ++ second.now) }
-    ensures cause { HasCause (E.faults err.old) (E.faults err.new) result }
+/// A line of at most 160 bytes.
+type Line = ArrayString<160>;
+
+/// Puts a line; no promise depends on whether the error stream takes it.
+fn put_line<E: Sink>(err: &mut E, line: &str)
+    ensures { PutsSome (E.shows err.old) (E.shows err.new) line.now }
 {
-    err.put(first.as_bytes())?;
-    err.put(second.as_bytes())
+    let _ = err.put(line.as_bytes());
 }
 
-fn put_number<E: Sink>(err: &mut E, what: &str, number: u64) -> Result<(), Failed>
-    ensures bytes { PutAppends (E.held err.old) (E.held err.new) result (what.now ++ decimal number) }
-    ensures cause { HasCause (E.faults err.old) (E.faults err.new) result }
-{
-    put_pair(err, what, Buffer::new().format(number))
-}
-
-/// The name of a cause or a limit, and the end of the line.
-fn put_name<E: Sink>(err: &mut E, name: &str) -> Result<(), Failed>
-    ensures bytes { PutAppends (E.held err.old) (E.held err.new) result ((codes ": " ++ name.now) ++ codes "\n") }
-    ensures cause { HasCause (E.faults err.old) (E.faults err.new) result }
-{
-    put_pair(err, ": ", name)?;
-    err.put(b"\n")
-}
-
-/// An offset, and behind it the name of the cause or limit that comes there.
-fn put_offset<E: Sink>(err: &mut E, what: &str, at: u64, name: &str) -> Result<(), Failed>
-    ensures bytes { PutAppends (E.held err.old) (E.held err.new) result ((what.now ++ decimal at) ++ ((codes ": " ++ name.now) ++ codes "\n")) }
-    ensures cause { HasCause (E.faults err.old) (E.faults err.new) result }
-{
-    put_number(err, what, at)?;
-    put_name(err, name)
-}
-
+/// The line that names a place of a rank's stream.
 #[tactic(auto, unfolding(crate::specs::Lines::place_line))]
-fn put_place<E: Sink>(err: &mut E, rank: u32, what: &str, at: u64, name: &str) -> Result<(), Failed>
-    ensures bytes { PutAppends (E.held err.old) (E.held err.new) result (place_line rank what.now at name.now) }
-    ensures cause { HasCause (E.faults err.old) (E.faults err.new) result }
+fn place_text(rank: u32, what: &str, at: u64, name: &str) -> Line
+    requires { (length what.now ≤ 16) × (length name.now ≤ 40) }
+    ensures { result.bytes ≡ place_line rank what.now at name.now }
 {
-    put_number(err, "rank ", u64::from(rank))?;
-    put_offset(err, what, at, name)
+    let mut line = Line::new();
+    line.push_str("rank ");
+    line.push_str(Buffer::new().format(rank));
+    line.push_str(what);
+    line.push_str(Buffer::new().format(at));
+    line.push_str(": ");
+    line.push_str(name);
+    line.push_str("\n");
+    line
 }
 
+/// The line that names a rank whose stream couldn't be read.
 #[tactic(auto, unfolding(crate::specs::Lines::read_line))]
-fn put_read<E: Sink>(err: &mut E, rank: u32) -> Result<(), Failed>
-    ensures bytes { PutAppends (E.held err.old) (E.held err.new) result (read_line rank) }
-    ensures cause { HasCause (E.faults err.old) (E.faults err.new) result }
+fn read_text(rank: u32) -> Line
+    ensures { result.bytes ≡ read_line rank }
 {
-    put_number(err, "rank ", u64::from(rank))?;
-    err.put(b" read failed\n")
+    let mut line = Line::new();
+    line.push_str("rank ");
+    line.push_str(Buffer::new().format(rank));
+    line.push_str(" read failed\n");
+    line
 }
 
 /// The line for the fault of a rank's stream.
-pub fn put_fault<E: Sink>(err: &mut E, rank: u32, fault: StreamFault) -> Result<(), Failed>
-    ensures bytes { PutAppends (E.held err.old) (E.held err.new) result (fault_line rank fault) }
-    ensures cause { HasCause (E.faults err.old) (E.faults err.new) result }
+pub fn put_fault<E: Sink>(err: &mut E, rank: u32, fault: StreamFault)
+    ensures { PutsSome (E.shows err.old) (E.shows err.new) (fault_line rank fault) }
 {
     match fault {
         StreamFault::Malformed { at, cause } => {
-            put_place(err, rank, " malformed at ", at, cause.name())
+            let line = place_text(rank, " malformed at ", at, cause.name());
+            put_line(err, line.as_str());
         }
-        StreamFault::Bound { at, limit } => put_place(err, rank, " bound at ", at, limit.name()),
-        StreamFault::Read => put_read(err, rank),
+        StreamFault::Bound { at, limit } => {
+            let line = place_text(rank, " bound at ", at, limit.name());
+            put_line(err, line.as_str());
+        }
+        StreamFault::Read => {
+            let line = read_text(rank);
+            put_line(err, line.as_str());
+        }
         StreamFault::NoMemory => put_memory(err),
     }
 }
 
-pub fn put_usage<E: Sink>(err: &mut E) -> Result<(), Failed>
-    ensures bytes { PutAppends (E.held err.old) (E.held err.new) result usage_line }
-    ensures cause { HasCause (E.faults err.old) (E.faults err.new) result }
+pub fn put_usage<E: Sink>(err: &mut E)
+    ensures { PutsSome (E.shows err.old) (E.shows err.new) usage_line }
 {
-    err.put(b"usage: must_cli check|dump|drill\n")
+    put_line(err, "usage: must_cli check|dump|drill\n");
 }
 
-pub fn put_write<E: Sink>(err: &mut E) -> Result<(), Failed>
-    ensures bytes { PutAppends (E.held err.old) (E.held err.new) result write_line }
-    ensures cause { HasCause (E.faults err.old) (E.faults err.new) result }
+pub fn put_write<E: Sink>(err: &mut E)
+    ensures { PutsSome (E.shows err.old) (E.shows err.new) write_line }
 {
-    err.put(b"write failed\n")
+    put_line(err, "write failed\n");
 }
 
-pub fn put_memory<E: Sink>(err: &mut E) -> Result<(), Failed>
-    ensures bytes { PutAppends (E.held err.old) (E.held err.new) result memory_line }
-    ensures cause { HasCause (E.faults err.old) (E.faults err.new) result }
+pub fn put_memory<E: Sink>(err: &mut E)
+    ensures { PutsSome (E.shows err.old) (E.shows err.new) memory_line }
 {
-    err.put(b"out of memory\n")
+    put_line(err, "out of memory\n");
 }

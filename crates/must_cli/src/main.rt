@@ -64,16 +64,16 @@ fn main(rt: HostRuntime) -> ExitCode {
     let mut err = StreamSink::new(rt.stderr());
     let status = match words_of(&rt, alloc) {
         Err(WordsFault::Refused) => {
-            let _ = line::put_usage(&mut err);
+            line::put_usage(&mut err);
             Status::Usage
         }
         Err(WordsFault::NoMemory) => {
-            let _ = line::put_memory(&mut err);
+            line::put_memory(&mut err);
             Status::NoMemory
         }
         Ok(words) => match rt.clone() {
             Err(_) => {
-                let _ = line::put_memory(&mut err);
+                line::put_memory(&mut err);
                 Status::NoMemory
             }
             Ok(files) => {
@@ -84,5 +84,5 @@ fn main(rt: HostRuntime) -> ExitCode {
             }
         },
     };
-    ExitCode::from(status as u8)
+    ExitCode::from(status.number())
 }

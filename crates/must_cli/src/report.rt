@@ -99,7 +99,8 @@ fn is_shown(rules: &RuleSet, f: &Finding) -> bool
 
 /// The line of a finding that is shown, and how many lines that is.
 fn push_shown(out: &mut String, rules: &RuleSet, f: &Finding) -> Result<usize, NoMemory>
-    ensures text { OnOk result (string_bytes out.new ≡ string_bytes out.old ++ flat_map (line_of rules.now) (shown rules.now (f.now ∷ []))) }
+    ensures text { OnOk result (string_bytes out.new
+        ≡ string_bytes out.old ++ flat_map (line_of rules.now) (shown rules.now (f.now ∷ []))) }
     ensures lines { IfOk result (λ lines. lines ≡ length (shown rules.now (f.now ∷ []))) }
     ensures few { IfOk result (λ lines. lines ≤ 1) }
 {

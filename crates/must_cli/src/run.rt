@@ -1,12 +1,9 @@
 //! The top call.
 
-ghost use Rattle.std.specs.Prelude.{◌≡◌, ◌≢◌, ◌≤◌, ◌↔◌, ◌<◌, Bool, IsTrue, length, map, Err, IfOk};
-ghost use Rattle.std.specs.Io.KnownBytes.{Appends};
-ghost use Rattle.must_base.specs.Causes.{Rose, AppendsFront};
-ghost use Rattle.must_find.specs.Rules.{usual_severities};
-ghost use Rattle.must_find.specs.Report.{shown, report_of};
-ghost use Rattle.must_cli.specs.Outside.{output, parts_of};
-ghost use Rattle.must_cli.specs.Promises.{Promises, Answers, Writes, Cuts, status_for};
+ghost use Rattle.std.specs.Prelude.{◌≡◌, ◌≢◌, ◌≤◌, ◌↔◌, ◌<◌, Bool, IsTrue, length, map, Err, IfOk, OnOk};
+ghost use Rattle.std.specs.List.{AllByRecursion};
+ghost use Rattle.must_cli.specs.Outside.{output, outside, AreTied};
+ghost use Rattle.must_cli.specs.Promises.{Promises, Answers, Writes, Cuts, status_for, world};
 ghost use Rattle.must_cli.specs.Walk.{Analyses};
 
 use crate::command::file_words;
@@ -14,10 +11,27 @@ use crate::line::{put_fault, put_memory, put_usage, put_write};
 use crate::report::report_text;
 use crate::status::Status;
 use crate::walk::{RunFault, analyse};
-use must_base::{Gate, NameText, Sink, Trace};
+use must_base::{Gate, NameText, NoMemory, Sink, Source, Trace};
 use must_codec::StreamFault;
 use must_find::{Findings, RuleSet};
 use std::alloc::Global;
+
+/// What a source shows is what it has left and how often a read of it failed. The function does nothing.
+fn source_law<S: Source>()
+    ensures { (source : S) → S.shows source ≡ record { left = S.left source; faults = S.faults source } }
+{}
+
+/// Binds the files: each part has the bytes of its file, where they are told, and none was read.
+fn bind_files<T: Trace>(alloc: Global, files: &[NameText], trace: &mut T) -> Result<(), NoMemory>
+    ensures names { OnOk result (T.names trace.new ≡ files.now) }
+    ensures left { OnOk result (map T.Src.left (T.bound trace.new) ≡ map (T.files trace.old) files.now) }
+    ensures fresh { OnOk result (AllByRecursion (λ part. T.Src.faults part ≡ 0) (T.bound trace.new)) }
+    ensures count { OnOk result (length (T.bound trace.new) ≡ length files.now) }
+{
+    source_law::<T::Src>();
+    trace.bind(alloc, files)?;
+    Ok(())
+}
 
 /// Binds the files, and reads them one after the other.
 fn read_run<T: Trace>(
@@ -26,10 +40,12 @@ fn read_run<T: Trace>(
     trace: &mut T,
 ) -> Result<Findings, RunFault>
     requires { (1 ≤ length files.now) × (length files.now ≤ 1024) }
-    ensures analyses { Analyses (map (T.files trace.old) files.now) (parts_of T.Src.left T.Src.faults (T.bound trace.new)) result }
+    ensures analyses { Analyses (map (T.files trace.old) files.now) (map T.Src.shows (T.bound trace.new)) result }
     ensures names { result ≢ Err RunFault.NoMemory → T.names trace.new ≡ files.now }
+    ensures tied { result ≢ Err RunFault.NoMemory
+        → AreTied (map (T.files trace.old) files.now) (map T.Src.shows (T.bound trace.new)) }
 {
-    if trace.bind(alloc, files).is_err() {
+    if bind_files(alloc, files, trace).is_err() {
         return Err(RunFault::NoMemory);
     }
     let parts = trace.parts();
@@ -45,9 +61,9 @@ enum OutFault {
 
 /// Puts the report of some findings, and says whether it has a line of a finding. All memory is taken before the put.
 fn put_report<O: Sink>(alloc: Global, findings: &Findings, out: &mut O) -> Result<bool, OutFault>
-    ensures writes { IfOk result (λ found. Writes (output (O.held out.old) (O.held out.new) (O.faults out.old) (O.faults out.new)) findings.now found) }
-    ensures cuts { result ≡ Err OutFault.Write → Cuts (output (O.held out.old) (O.held out.new) (O.faults out.old) (O.faults out.new)) findings.now }
-    ensures nothing { result ≡ Err OutFault.NoMemory → O.held out.new ≡ O.held out.old }
+    ensures writes { IfOk result (Writes (output (O.shows out.old) (O.shows out.new)) findings.now) }
+    ensures cuts { result ≡ Err OutFault.Write → Cuts (output (O.shows out.old) (O.shows out.new)) findings.now }
+    ensures nothing { result ≡ Err OutFault.NoMemory → O.shows out.new ≡ O.shows out.old }
 {
     match report_text(alloc, &RuleSet::usual(), findings.as_slice()) {
         Err(_) => Err(OutFault::NoMemory),
@@ -78,27 +94,35 @@ fn check<T: Trace, O: Sink, E: Sink>(
     err: &mut E,
 ) -> Status
     requires { (1 ≤ length files.now) × (length files.now ≤ 1024) }
-    ensures answers { Answers (record { told = map (T.files trace.old) files.now; parts = parts_of T.Src.left T.Src.faults (T.bound trace.new); out = output (O.held out.old) (O.held out.new) (O.faults out.old) (O.faults out.new) }) (output (E.held err.old) (E.held err.new) (E.faults err.old) (E.faults err.new)) result }
+    ensures answers { Answers
+        (outside
+        (map (T.files trace.old) files.now)
+        (map T.Src.shows (T.bound trace.new))
+        (output (O.shows out.old) (O.shows out.new)))
+        (output (E.shows err.old) (E.shows err.new))
+        result }
     ensures names { result ≢ Status.NoMemory → T.names trace.new ≡ files.now }
+    ensures tied { result ≢ Status.NoMemory
+        → AreTied (map (T.files trace.old) files.now) (map T.Src.shows (T.bound trace.new)) }
 {
     match read_run(alloc, files, trace) {
         Err(RunFault::NoMemory) => {
-            let _ = put_memory(err);
+            put_memory(err);
             Status::NoMemory
         }
         Err(RunFault::Stream { rank, fault }) => {
-            let _ = put_fault(err, rank, fault);
+            put_fault(err, rank, fault);
             status_of(fault)
         }
         Ok(findings) => match put_report(alloc, &findings, out) {
             Ok(true) => Status::Found,
             Ok(false) => Status::Clean,
             Err(OutFault::Write) => {
-                let _ = put_write(err);
+                put_write(err);
                 Status::Outside
             }
             Err(OutFault::NoMemory) => {
-                let _ = put_memory(err);
+                put_memory(err);
                 Status::NoMemory
             }
         },
@@ -115,12 +139,15 @@ pub fn serial_command<T: Trace, O: Sink, E: Sink>(
     out: &mut O,
     err: &mut E,
 ) -> Status
-    ensures promises { Promises words.now (map (T.files trace.old)) (T.names trace.new) (parts_of T.Src.left T.Src.faults (T.bound trace.new)) (output (O.held out.old) (O.held out.new) (O.faults out.old) (O.faults out.new)) (output (E.held err.old) (E.held err.new) (E.faults err.old) (E.faults err.new)) result }
+    ensures promises { Promises words.now (map (T.files trace.old))
+        (world (T.names trace.old) (map T.Src.shows (T.bound trace.old)) (O.shows out.old) (E.shows err.old))
+        (world (T.names trace.new) (map T.Src.shows (T.bound trace.new)) (O.shows out.new) (E.shows err.new))
+        result }
 {
     match file_words(words) {
         Some(files) => check(alloc, files, trace, out, err),
         None => {
-            let _ = put_usage(err);
+            put_usage(err);
             Status::Usage
         }
     }
@@ -138,7 +165,10 @@ pub fn run<R, T: Trace, O: Sink, E: Sink, G: Gate + Sync>(
     err: &mut E,
     _gate: &G,
 ) -> Status
-    ensures promises { Promises words.now (map (T.files trace.old)) (T.names trace.new) (parts_of T.Src.left T.Src.faults (T.bound trace.new)) (output (O.held out.old) (O.held out.new) (O.faults out.old) (O.faults out.new)) (output (E.held err.old) (E.held err.new) (E.faults err.old) (E.faults err.new)) result }
+    ensures promises { Promises words.now (map (T.files trace.old))
+        (world (T.names trace.old) (map T.Src.shows (T.bound trace.old)) (O.shows out.old) (E.shows err.old))
+        (world (T.names trace.new) (map T.Src.shows (T.bound trace.new)) (O.shows out.new) (E.shows err.new))
+        result }
 {
     serial_command(alloc, words, trace, out, err)
 }

@@ -1,5 +1,8 @@
 //! Statuses.
 
+ghost use Rattle.std.specs.Prelude.{◌≡◌};
+ghost use Rattle.must_cli.specs.Numbers.{number_of};
+
 /// How a run of the program ended; the number is the status of its process.
 #[derive(Clone, Copy, Debug, PartialEq, Eq)]
 pub enum Status {
@@ -17,4 +20,13 @@ pub enum Status {
     Bound = 5,
     /// There was no memory.
     NoMemory = 6,
+}
+
+impl Status {
+    /// The status of the process that ends so.
+    pub fn number(self) -> u8
+        ensures { result ≡ number_of self }
+    {
+        self as u8
+    }
 }

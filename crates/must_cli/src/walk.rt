@@ -3,7 +3,7 @@
 ghost use Rattle.std.specs.Prelude.{◌≡◌, ◌≤◌, ◌<◌, [], List, ℕ, Some, Err, OnOk, IfErr, length, map};
 ghost use Rattle.must_base.specs.Causes.{Rose};
 ghost use Rattle.must_cli.specs.Walk.{ReadsRank, IsFaultOf, Analyses, fault_at};
-ghost use Rattle.must_cli.specs.Outside.{parts_of};
+ghost use Rattle.must_cli.specs.Outside.{IsLeftOf, AreTied};
 ghost use Rattle.std.specs.List.{AllByRecursion};
 
 use crate::judge::add_call;
@@ -41,8 +41,11 @@ fn read_rank<S: Source>(
 ) -> Result<(), StreamFault>
     requires size { (1 ≤ expect.size) × (expect.size ≤ 1024) }
     requires rank { expect.rank < expect.size }
-    ensures done { OnOk result ((bytes : List ℕ) → S.left src.old ≡ Some bytes → ReadsRank expect.rank expect.size bytes findings.old findings.new × (S.left src.new ≡ Some [])) }
-    ensures refused { IfErr result (λ fault. (bytes : List ℕ) → S.left src.old ≡ Some bytes → IsFaultOf expect.rank expect.size bytes fault) }
+    ensures done { OnOk result ((bytes : List ℕ) → S.left src.old ≡ Some bytes
+        → ReadsRank expect.rank expect.size bytes findings.old findings.new × (S.left src.new ≡ Some [])) }
+    ensures refused { IfErr result (λ fault. (bytes : List ℕ) → S.left src.old ≡ Some bytes
+        → IsFaultOf expect.rank expect.size bytes (S.left src.new) fault) }
+    ensures tied { (bytes : List ℕ) → S.left src.old ≡ Some bytes → IsLeftOf bytes (S.left src.new) }
     ensures read { result ≡ Err StreamFault.Read → Rose (S.faults src.old) (S.faults src.new) }
 {
     let mut reader = StreamReader::new(alloc, expect)?;
@@ -67,7 +70,8 @@ fn read_rank<S: Source>(
 pub fn analyse<S: Source>(alloc: Global, parts: &mut [S]) -> Result<Findings, RunFault>
     requires few { (1 ≤ length parts.old) × (length parts.old ≤ 1024) }
     requires fresh { AllByRecursion (λ part. S.faults part ≡ 0) parts.old }
-    ensures { Analyses (map S.left parts.old) (parts_of S.left S.faults parts.new) result }
+    ensures analyses { Analyses (map S.left parts.old) (map S.shows parts.new) result }
+    ensures tied { AreTied (map S.left parts.old) (map S.shows parts.new) }
 {
     let size = parts.len() as u32;
     let mut findings = Findings::new(alloc);

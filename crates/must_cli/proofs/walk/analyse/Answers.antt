@@ -1,5 +1,10 @@
-use Rattle.std.proofs.Common.{refl, ap, Err, ◌∙◌}
-use Rattle.must_cli.proofs.Analysing.{at_first, one_more, at_last, at_fault}
+use Rattle.std.proofs.Common.{List, Result, map, refl, sym, ap, subst, Ok, Err, ◌∙◌}
+use Rattle.std.proofs.Math.ListN.{set}
+use Rattle.must_base.specs.Views.{SourceView}
+use Rattle.must_cli.specs.Promises.{ReadsRun}
+use Rattle.must_cli.specs.Outside.{AreTied}
+use Rattle.must_cli.specs.Walk.{Analyses, fault_at}
+use Rattle.must_cli.proofs.Analysing.{at_first, one_more, at_last, at_fault, tied_at_last, tied_at_fault, parts_shown}
 use Rattle.must_cli.proofs.walk.analyse.Goals as goal
 
 pub loop-rank-init : goal.loop-rank-init
@@ -9,14 +14,29 @@ pub loop-rank-preserved : goal.loop-rank-preserved
 loop-rank-preserved g c = record {
   size_is = refl;
   analysing = one_more g.S.Source.left g.S.Source.faults c.args.parts.now c.loop-rank.parts c.loop-rank.rank c.loop-rank.findings c.read_rank.new.findings _ c.read_rank.new.src
-      c.loop-rank-test.true c.in-Ok.ensures.done c.loop-rank.invariant.analysing;
+      c.loop-rank-test.true c.in-Ok.ensures.done c.in-Ok.ensures.tied c.loop-rank.invariant.analysing;
 }
 
-pub returns : goal.returns
-returns g c = at_last g.S.Source.left g.S.Source.faults c.args.parts.now c.loop-rank.parts c.loop-rank.rank c.loop-rank.findings c.loop-rank-test.false c.as_slice.ensures.rises c.loop-rank.invariant.analysing
+pub returns-clause-analyses : goal.returns-clause-analyses
+returns-clause-analyses g c =
+    subst (λ (parts : List SourceView). ReadsRun (map g.S.Source.left c.args.parts.now) parts c.loop-rank.findings) (sym (parts_shown g.S.Source.shows g.S.Source.left g.S.Source.faults g.met.S.Source.shows_is c.loop-rank.parts))
+    (at_last g.S.Source.left g.S.Source.faults c.args.parts.now c.loop-rank.parts c.loop-rank.rank c.loop-rank.findings c.loop-rank-test.false c.as_slice.ensures.rises c.loop-rank.invariant.analysing)
 
-pub returns-in-Err : goal.returns-in-Err
-returns-in-Err g c =
+pub returns-clause-tied : goal.returns-clause-tied
+returns-clause-tied g c =
+    subst (λ (parts : List SourceView). AreTied (map g.S.Source.left c.args.parts.now) parts) (sym (parts_shown g.S.Source.shows g.S.Source.left g.S.Source.faults g.met.S.Source.shows_is c.loop-rank.parts))
+    (tied_at_last g.S.Source.left g.S.Source.faults c.args.parts.now c.loop-rank.parts c.loop-rank.rank c.loop-rank.findings c.loop-rank-test.false c.loop-rank.invariant.analysing)
+
+pub returns-in-Err-clause-analyses : goal.returns-in-Err-clause-analyses
+returns-in-Err-clause-analyses g c =
     rw c.at.ensures
+    (subst (λ (parts : List SourceView). Analyses (map g.S.Source.left c.args.parts.now) parts (Err (fault_at c.loop-rank.rank c.in-Err.fault)))
+    (sym (parts_shown g.S.Source.shows g.S.Source.left g.S.Source.faults g.met.S.Source.shows_is (set c.loop-rank.parts c.loop-rank.rank c.read_rank.new.src)))
     (at_fault g.S.Source.left g.S.Source.faults c.args.parts.now c.loop-rank.parts c.loop-rank.rank _ c.read_rank.new.src c.loop-rank.findings c.in-Err.fault
-    c.loop-rank-test.true c.requires.fresh c.loop-rank.invariant.analysing c.in-Err.ensures.refused (λ e. c.read_rank.ensures.read (c.in-Err.is ∙ ap Err e)))
+    c.loop-rank-test.true c.requires.fresh c.loop-rank.invariant.analysing c.in-Err.ensures.refused (λ e. c.read_rank.ensures.read (c.in-Err.is ∙ ap Err e))))
+
+pub returns-in-Err-clause-tied : goal.returns-in-Err-clause-tied
+returns-in-Err-clause-tied g c =
+    subst (λ (parts : List SourceView). AreTied (map g.S.Source.left c.args.parts.now) parts)
+    (sym (parts_shown g.S.Source.shows g.S.Source.left g.S.Source.faults g.met.S.Source.shows_is (set c.loop-rank.parts c.loop-rank.rank c.read_rank.new.src)))
+    (tied_at_fault g.S.Source.left g.S.Source.faults c.args.parts.now c.loop-rank.parts c.loop-rank.rank _ c.read_rank.new.src c.loop-rank.findings c.loop-rank-test.true c.in-Err.ensures.tied c.loop-rank.invariant.analysing)
