@@ -15,11 +15,10 @@ use Rattle.must_find.specs.declared.finding.Finding.{Finding}
 use Rattle.must_base.specs.Listing.{Rises}
 use Rattle.must_find.specs.Order.{by_all}
 use Rattle.must_rules.specs.Run.{Strict}
-use Rattle.must_rules.specs.Walk.{HasRowsBefore}
 use Rattle.must_rules.specs.WalkLaws.{at_start, at_end}
 use Rattle.must_rules.specs.StreamRuns.{AreComplete, run_of, next_rank}
 use Rattle.must_base.specs.Views.{SourceView, unread}
-use Rattle.must_cli.specs.Outside.{flat, told_at, HasFailed, IsLeftOf, AreTied, ShowsNoRefusal}
+use Rattle.must_cli.specs.Outside.{flat, told_at, IsLeftOf, AreTied, ShowsNoRefusal}
 use Rattle.must_cli.proofs.Reading.{left_unread}
 use Rattle.must_cli.specs.Promises.{AreTold, AreAccepted, ReadsRun, RunRows, StopsAt}
 use Rattle.must_cli.specs.Walk.{ReadsRank, IsFaultOf, HasRowsBelow, Analyses, fault_at}
@@ -88,9 +87,6 @@ bound_unread shows left faults is told (p ∷ ps) (n ∷ names) e =
 pick : {S : Type 0} (ps : List S) (k : ℕ) → k < length ps → S
 pick [] k within = absurd (omega (arith, within))
 pick (p ∷ ps) k within = p
-
-part_same : (p q : SourceView) → Some p ≡ Some q → p ≡ q
-part_same p q e = cc
 
 pub part_at : {S : Type 0} (left : S → Option (List ℕ)) (faults : S → ℕ) (ps : List S) (k : ℕ) (d : S) → k < length ps
     → slice_get (parts_of left faults ps) k ≡ Some (record { left = left (get_or ps k d); faults = faults (get_or ps k d) })

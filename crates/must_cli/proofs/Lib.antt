@@ -1,4 +1,3 @@
-pub mod Short
 pub mod Put
 pub mod Shown
 pub mod Reading

@@ -1,11 +1,13 @@
 //! The words of the command line.
 
-ghost use Rattle.std.specs.Prelude.{◌≡◌, ◌<◌, ◌≤◌, length, Some, None, IfSome, IsNone, ◌↔◌};
+ghost use Rattle.std.specs.Prelude.{◌≡◌, ◌<◌, ◌≤◌, length, Some, None, IfSome};
 ghost use Rattle.std.specs.Option.{option_map};
 ghost use Rattle.std.specs.List.{list_all};
+ghost use Rattle.must_format.specs.declared.limits.TheConstants.{MOST_RANKS};
 ghost use Rattle.must_cli.specs.Command.{is_file, are_files, command, Check};
 
 use must_base::NameText;
+use must_format::MOST_RANKS;
 
 fn is_file_word(word: &NameText) -> bool
     ensures { result ≡ is_file word.now }
@@ -23,13 +25,13 @@ fn all_file_words(words: &[NameText]) -> bool
 fn are_file_words(words: &[NameText]) -> bool
     ensures { result ≡ are_files words.now }
 {
-    !words.is_empty() && words.len() <= 1024 && all_file_words(words)
+    !words.is_empty() && words.len() <= MOST_RANKS as usize && all_file_words(words)
 }
 
 /// The file words of a check, rank 0 first; none exactly where the words aren't canonical.
 pub fn file_words(words: &[NameText]) -> Option<&[NameText]>
     ensures command { option_map (λ files. Check files.now) result ≡ command words.now }
-    ensures count { IfSome result (λ files. (0 < length files.now) × (length files.now ≤ 1024)) }
+    ensures count { IfSome result (λ files. (0 < length files.now) × (length files.now ≤ MOST_RANKS)) }
 {
     match words {
         [] => None,

@@ -1,7 +1,6 @@
 //! The lines on the error stream. Each is made in a buffer on the stack and put at once. They take no memory.
 
-ghost use Rattle.std.specs.Prelude.{◌≡◌, ◌≤◌, ◌++◌, length, codes};
-ghost use Rattle.std.specs.Fmt.{decimal};
+ghost use Rattle.std.specs.Prelude.{◌≡◌, ◌≤◌, length};
 ghost use Rattle.must_base.specs.Views.{PutsSome};
 ghost use Rattle.must_cli.specs.Lines.{place_line, read_line, fault_line, usage_line, write_line, memory_line};
 

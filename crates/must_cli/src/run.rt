@@ -1,7 +1,8 @@
 //! The top call.
 
-ghost use Rattle.std.specs.Prelude.{◌≡◌, ◌≢◌, ◌≤◌, ◌↔◌, ◌<◌, Bool, IsTrue, length, map, Err, IfOk, OnOk};
+ghost use Rattle.std.specs.Prelude.{◌≡◌, ◌≢◌, ◌≤◌, ◌<◌, length, map, Err, IfOk, OnOk};
 ghost use Rattle.std.specs.List.{AllByRecursion};
+ghost use Rattle.must_format.specs.declared.limits.TheConstants.{MOST_RANKS};
 ghost use Rattle.must_cli.specs.Outside.{output, outside, AreTied};
 ghost use Rattle.must_cli.specs.Promises.{Promises, Answers, Writes, Cuts, status_for, world};
 ghost use Rattle.must_cli.specs.Walk.{Analyses};
@@ -39,7 +40,7 @@ fn read_run<T: Trace>(
     files: &[NameText],
     trace: &mut T,
 ) -> Result<Findings, RunFault>
-    requires { (1 ≤ length files.now) × (length files.now ≤ 1024) }
+    requires { (1 ≤ length files.now) × (length files.now ≤ MOST_RANKS) }
     ensures analyses { Analyses (map (T.files trace.old) files.now) (map T.Src.shows (T.bound trace.new)) result }
     ensures names { result ≢ Err RunFault.NoMemory → T.names trace.new ≡ files.now }
     ensures tied { result ≢ Err RunFault.NoMemory
@@ -93,7 +94,7 @@ fn check<T: Trace, O: Sink, E: Sink>(
     out: &mut O,
     err: &mut E,
 ) -> Status
-    requires { (1 ≤ length files.now) × (length files.now ≤ 1024) }
+    requires { (1 ≤ length files.now) × (length files.now ≤ MOST_RANKS) }
     ensures answers { Answers
         (outside
         (map (T.files trace.old) files.now)

@@ -2,6 +2,7 @@
 
 ghost use Rattle.std.specs.Prelude.{◌≡◌, ◌≤◌, ◌<◌, [], List, ℕ, Some, Err, OnOk, IfErr, length, map};
 ghost use Rattle.must_base.specs.Causes.{Rose};
+ghost use Rattle.must_format.specs.declared.limits.TheConstants.{MOST_RANKS};
 ghost use Rattle.must_cli.specs.Walk.{ReadsRank, IsFaultOf, Analyses, fault_at};
 ghost use Rattle.must_cli.specs.Outside.{IsLeftOf, AreTied};
 ghost use Rattle.std.specs.List.{AllByRecursion};
@@ -39,7 +40,7 @@ fn read_rank<S: Source>(
     src: &mut S,
     findings: &mut Findings,
 ) -> Result<(), StreamFault>
-    requires size { (1 ≤ expect.size) × (expect.size ≤ 1024) }
+    requires size { (1 ≤ expect.size) × (expect.size ≤ MOST_RANKS) }
     requires rank { expect.rank < expect.size }
     ensures done { OnOk result ((bytes : List ℕ) → S.left src.old ≡ Some bytes
         → ReadsRank expect.rank expect.size bytes findings.old findings.new × (S.left src.new ≡ Some [])) }
@@ -68,7 +69,7 @@ fn read_rank<S: Source>(
 
 /// Reads the streams of a run one after the other, rank 0 first, up to the first that stops the run, and gives its rows.
 pub fn analyse<S: Source>(alloc: Global, parts: &mut [S]) -> Result<Findings, RunFault>
-    requires few { (1 ≤ length parts.old) × (length parts.old ≤ 1024) }
+    requires few { (1 ≤ length parts.old) × (length parts.old ≤ MOST_RANKS) }
     requires fresh { AllByRecursion (λ part. S.faults part ≡ 0) parts.old }
     ensures analyses { Analyses (map S.left parts.old) (map S.shows parts.new) result }
     ensures tied { AreTied (map S.left parts.old) (map S.shows parts.new) }

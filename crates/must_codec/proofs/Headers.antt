@@ -9,9 +9,9 @@ use Rattle.must_format.specs.declared.header.Header.{Header}
 use Rattle.must_format.specs.declared.fault.StreamFault.{StreamFault}
 use Rattle.must_format.specs.declared.fault.StreamFault.TheVariants as fault
 use Rattle.must_format.specs.declared.cause.Cause.TheVariants as cause
-use Rattle.must_format.specs.Stream.{byte_limit, header_of, header_fault, rank_of, size_of, is_size, expected_fault}
+use Rattle.must_format.specs.Stream.{header_of, header_fault, rank_of, size_of, is_size, expected_fault}
 use Rattle.must_format.specs.HeaderLaws.{header_long, fault_more}
-use Rattle.must_format.specs.CompleteLaws.{Passed, passed_header}
+use Rattle.must_format.specs.CompleteLaws.{passed_header}
 use Rattle.must_codec.specs.Views.{IsExpect, IsReady, IsRefusal, HeaderIs, HeaderSays, Headed, TookFront, TookSome, start}
 
 passed : (b : Bool) (f : StreamFault) (o : Option StreamFault) → cond b (Some f) o ≡ None → (b ≡ false) × (o ≡ None)

@@ -1,6 +1,6 @@
 -- What a reader stands for, step by step.
-use Rattle.std.proofs.Common.{◌≡◌, ℕ, ◌+◌, ◌≤◌, inl, inr, List, [], ◌∷◌, ◌++◌, length, drop, Option, Some, None, refl, sym, ap, subst, ◌∙◌, append_assoc, append-nil, arith, length-append}
-use Rattle.std.specs.Prelude.{◌⊎◌, Result, Ok, Err}
+use Rattle.std.proofs.Common.{◌≡◌, ℕ, ◌+◌, ◌≤◌, inl, inr, List, [], ◌++◌, length, drop, Option, Some, None, refl, sym, ap, subst, ◌∙◌, append_assoc, append-nil, arith, length-append}
+use Rattle.std.specs.Prelude.{Result, Ok, Err}
 use Rattle.std.proofs.lemmas.List.{drop-append-le, drop-drop, length-drop, nil_from_length}
 use Rattle.must_call.specs.declared.call.Call.{Call}
 use Rattle.must_format.specs.declared.expect.Expect.{Expect}
@@ -10,11 +10,11 @@ use Rattle.must_format.specs.declared.fault.StreamFault.{StreamFault}
 use Rattle.must_format.specs.declared.fault.StreamFault.TheVariants as fault
 use Rattle.must_format.specs.declared.cause.Cause.TheVariants as cause
 use Rattle.must_format.specs.Payload.{record_length, offset_behind}
-use Rattle.must_format.specs.Stream.{Coming, Next, Done, Stop, byte_limit, header_of, header_fault, header_past, accepted_header, coming_at, coming, outcome, AreCalls, IsReading, BodyReading, IsStream}
+use Rattle.must_format.specs.Stream.{Coming, Next, Stop, byte_limit, header_of, header_fault, header_past, accepted_header, coming_at, coming, outcome, AreCalls, BodyReading, IsStream}
 use Rattle.must_format.specs.HeaderLaws.{header_more, fault_more}
 use Rattle.must_format.specs.StreamLaws.{no_calls, one_more}
 use Rattle.must_format.specs.CompleteLaws.{offset_more}
-use Rattle.must_codec.specs.Reader.{Phase, Fresh, Before, Ended, Failed, ReaderState, Stands, IsPlace, HasHeader, StandsBefore, ShowsNone, StandsFor, HasFew, Answers, Gave}
+use Rattle.must_codec.specs.Reader.{Phase, Fresh, Before, Ended, Failed, ReaderState, Stands, StandsBefore, ShowsNone, StandsFor, HasFew, Answers, Gave}
 use Rattle.must_codec.specs.Views.{Headed, OpenedAt, Stepped, start}
 
 -- ---- the header

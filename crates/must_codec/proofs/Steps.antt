@@ -1,15 +1,14 @@
 -- One step over the bytes that were taken.
-use Rattle.std.proofs.Common.{◌≡◌, ℕ, ◌+◌, ◌≤◌, ◌<◌, inl, inr, Bool, true, false, List, [], ◌∷◌, ◌++◌, length, take, drop, Option, Some, None, refl, sym, ap, subst, ◌∙◌, append_assoc, append-nil, arith, length-append}
-use Rattle.std.specs.Prelude.{◌⊎◌, Result, Ok, Err}
+use Rattle.std.proofs.Common.{◌≡◌, ℕ, ◌+◌, ◌≤◌, inl, inr, Bool, true, List, [], ◌∷◌, ◌++◌, length, take, drop, Option, Some, refl, sym, ap, subst, ◌∙◌, append_assoc, append-nil, arith, length-append}
+use Rattle.std.specs.Prelude.{Result, Ok, Err}
 use Rattle.must_call.specs.declared.call.Call.{Call}
 use Rattle.must_format.specs.declared.header.Header.{Header}
 use Rattle.must_format.specs.declared.place.StreamPlace.{StreamPlace}
 use Rattle.must_format.specs.declared.fault.StreamFault.{StreamFault}
 use Rattle.must_format.specs.declared.fault.StreamFault.TheVariants as fault
-use Rattle.must_format.specs.declared.cause.Cause.TheVariants as cause
 use Rattle.must_format.specs.Payload.{record_length, offset_behind, payload_text}
 use Rattle.must_format.specs.Record.{Front, Whole, End, More, Bad, front}
-use Rattle.must_format.specs.Stream.{Coming, Next, Done, Stop, stop, byte_limit, coming_front, coming_at, room_behind}
+use Rattle.must_format.specs.Stream.{Coming, Next, Stop, byte_limit, coming_front, coming_at, room_behind}
 use Rattle.must_format.specs.ComingLaws.{coming_stays, coming_past, front_call}
 use Rattle.must_codec.specs.Reader.{IsPlace}
 use Rattle.must_codec.specs.Views.{Took, IsSettled, Says, IsRefusal, Stepped, StepAnswers, IsReady}
@@ -22,9 +21,6 @@ pub record Mid (old window rest : List ℕ) (left : Option (List ℕ)) (ended : 
   pub left_is : left ≡ Some others
   pub window_is : window ≡ old ++ piece
   pub end : ended ≡ true → others ≡ []
-
-pub mid_start : (old rest : List ℕ) (left : Option (List ℕ)) → left ≡ Some rest → Mid old old rest left false
-mid_start old rest left is = record { piece = []; others = rest; parts = refl; left_is = is; window_is = sym (append-nil old); end = λ no. absurd cc }
 
 pub mid_more : (old window new rest : List ℕ) (left after : Option (List ℕ)) (ended now : Bool) (count : ℕ) → Mid old window rest left ended → ((others : List ℕ) → left ≡ Some others → Took window new others after count) → (now ≡ true → count ≡ 0)
     → Mid old new rest after now

@@ -1,10 +1,11 @@
 //! A reader of one stream.
 
-ghost use Rattle.std.specs.Prelude.{◌≡◌, ◌≢◌, ◌+◌, ◌<◌, ◌≤◌, ◌⊎◌, ℕ, List, [], IfOk, IfErr, Some, None, Ok, Err};
+ghost use Rattle.std.specs.Prelude.{◌≡◌, ◌≢◌, ◌<◌, ◌≤◌, ◌⊎◌, ℕ, List, [], IfOk, IfErr, Some, None, Ok, Err};
 ghost use Rattle.std.specs.Option.{option_map};
 ghost use Rattle.must_base.specs.Causes.{Rose};
 ghost use Rattle.must_call.specs.declared.call.Call.{Call};
 ghost use Rattle.must_format.specs.declared.fault.StreamFault.{StreamFault};
+ghost use Rattle.must_format.specs.declared.limits.TheConstants.{MOST_RANKS};
 ghost use Rattle.must_codec.specs.Reader.{Fresh, Before, Ended, Failed, StandsFor, Gave, ReaderState};
 ghost use Rattle.must_codec.specs.Views.{Leaves, KeepsAt, IsOpen, Opened, IsExpect, start};
 
@@ -58,7 +59,7 @@ impl Model for StreamReader {
 impl StreamReader {
     /// A reader of a rank's stream that has read nothing. Its buffer takes memory once.
     pub fn new(alloc: Global, expect: Expect) -> Result<StreamReader, NoMemory>
-        requires size { (1 ≤ expect.size) × (expect.size ≤ 1024) }
+        requires size { (1 ≤ expect.size) × (expect.size ≤ MOST_RANKS) }
         requires rank { expect.rank < expect.size }
         ensures { IfOk result (λ r. r ≡ record { expect = Some expect; unread = []; header = None; at = 0; phase = Fresh }) }
     {

@@ -1,8 +1,6 @@
 //! The bytes of a source that were taken and not yet used up.
 
-ghost use Rattle.std.specs.Prelude.{◌≡◌, ◌≤◌, ◌<◌, ◌+◌, ◌-◌, ◌++◌, ℕ, List, [], Some, take, drop, length, IfOk, OnOk, OnErr};
-ghost use Rattle.std.specs.Io.{ReadsAtMost};
-ghost use Rattle.std.specs.Io.KnownBytes.{ReadConsumes};
+ghost use Rattle.std.specs.Prelude.{◌≡◌, ◌≤◌, ◌<◌, ◌+◌, ◌-◌, ℕ, List, [], Some, take, drop, length, IfOk, OnErr};
 ghost use Rattle.must_base.specs.Causes.{HasCause};
 ghost use Rattle.must_codec.specs.declared.window.TheConstants.{CAPACITY};
 ghost use Rattle.must_codec.specs.Views.{Filled, ReadsBehind};

@@ -2,9 +2,10 @@
 
 ghost use Rattle.must_format.specs.Spelling.{IsSpellable};
 
-use crate::{fits, inputs_of, output_of, put_payload, read_payload};
+use crate::{fits, inputs_of, judge_end, judge_payload, output_of, put_payload, read_payload};
 use must_base::NoMemory;
 use must_call::{Body, Call, Collective, Field, Handle, Item, Kind, Output, Point};
+use must_format::Cause;
 use std::alloc::Global;
 use std::process::Abort;
 use std::test::Fail;
@@ -80,6 +81,38 @@ fn payloads(rt: HostRuntime) -> Result<(), Fail> {
     let alloc = rt.alloc();
     is_payload(&rt, alloc, true, PAYLOAD, &[1, 65, 66, 2, 3, 0])?;
     is_payload(&rt, alloc, false, &PAYLOAD[..8], &[1, 65])
+}
+
+/// The payload is good, and behind its fields stand these outputs; or this is its first fault.
+fn is_judged(
+    rt: &impl Abort,
+    kind: Kind,
+    returned: bool,
+    payload: &[u8],
+    wanted: Result<&[u8], Cause>,
+) {
+    let judged = judge_payload(kind, returned, payload);
+    assert_eq!(rt; judged.ok(), wanted.ok());
+    assert_eq!(rt; judged.err(), wanted.err());
+}
+
+#[test]
+fn judged_payloads(rt: HostRuntime) {
+    let (fields, outputs) = PAYLOAD.split_at(8);
+    is_judged(&rt, Kind::CommCreate, true, PAYLOAD, Ok(outputs));
+    is_judged(&rt, Kind::CommCreate, false, fields, Ok(&[]));
+    is_judged(&rt, Kind::CommCreate, true, fields, Err(Cause::Length));
+    is_judged(&rt, Kind::CommCreate, false, PAYLOAD, Err(Cause::Length));
+    is_judged(
+        &rt,
+        Kind::OpCreate,
+        true,
+        &[2, 0, 0, 0, 64],
+        Err(Cause::Field),
+    );
+    assert_eq!(rt; judge_end(&[0, 0, 0, 7]).err(), None);
+    assert_eq!(rt; judge_end(&[0, 0, 0]).err(), Some(Cause::Length));
+    assert_eq!(rt; judge_end(&[0, 0, 0, 7, 0]).err(), Some(Cause::Length));
 }
 
 #[test]

@@ -108,9 +108,6 @@ mark size marks xs m lt most new k = record {
 pub no_marks : (size : ℕ) → Marked size (replicate MOST_RANKS false) []
 no_marks size = record { long = length-replicate MOST_RANKS false; marks_are = λ r within. get_or-replicate MOST_RANKS r false false within; low = refl; distinct = refl }
 
-pub marked_all : (rank size : ℕ) (marks : List Bool) (xs : List ℕ) → rank < MOST_RANKS → Marked size marks xs → get_or marks rank false ≡ are_ranks_with rank size xs
-marked_all rank size marks xs within k = k.marks_are rank within ∙ sym (rw (k.low, k.distinct) refl)
-
 -- ---- members that are read one after the other
 
 pub items_next : (n i : ℕ) (front bytes all : List ℕ) → i < n → front ++ items_at item.Request (n - i) bytes ≡ all → all ≡ front ++ u32_at bytes ∷ items_at item.Request (n - (i + 1)) (drop 4 bytes)

@@ -5,7 +5,6 @@
 //! `fits`, each in time linear in the record.
 #![tactic(auto)]
 
-mod judging;
 mod laws;
 mod made;
 mod record;

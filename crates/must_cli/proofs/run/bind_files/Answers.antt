@@ -1,4 +1,4 @@
-use Rattle.std.proofs.Common.{map, length, sym, ap, ◌∙◌}
+use Rattle.std.proofs.Common.{length, sym, ap, ◌∙◌}
 use Rattle.std.proofs.lemmas.List.{length-map}
 use Rattle.must_cli.proofs.Analysing.{bound_unread}
 use Rattle.must_cli.proofs.run.bind_files.Goals as goal

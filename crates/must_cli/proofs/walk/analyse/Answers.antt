@@ -1,4 +1,4 @@
-use Rattle.std.proofs.Common.{List, Result, map, refl, sym, ap, subst, Ok, Err, ◌∙◌}
+use Rattle.std.proofs.Common.{List, map, refl, sym, ap, subst, Err, ◌∙◌}
 use Rattle.std.proofs.Math.ListN.{set}
 use Rattle.must_base.specs.Views.{SourceView}
 use Rattle.must_cli.specs.Promises.{ReadsRun}

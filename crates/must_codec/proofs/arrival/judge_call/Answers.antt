@@ -1,4 +1,4 @@
-use Rattle.std.proofs.Common.{◌∙◌, sym, ap, Some, arith}
+use Rattle.std.proofs.Common.{◌∙◌, sym, ap, Some}
 use Rattle.must_format.specs.Stream.{is_due}
 use Rattle.must_codec.proofs.Places.{not_due, no_members, comes_next}
 use Rattle.must_codec.proofs.arrival.judge_call.Goals as goal

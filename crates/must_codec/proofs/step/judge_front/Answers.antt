@@ -1,4 +1,4 @@
-use Rattle.std.proofs.Common.{ap, ◌∙◌, length, length-drop, arith}
+use Rattle.std.proofs.Common.{ap, length, length-drop, arith}
 use Rattle.must_format.specs.HeaderLaws.{header_long}
 use Rattle.must_codec.proofs.Headers.{ready_at}
 use Rattle.must_codec.proofs.step.judge_front.Goals as goal

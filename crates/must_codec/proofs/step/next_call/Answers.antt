@@ -1,4 +1,4 @@
-use Rattle.std.proofs.Common.{◌≡◌, sym, ap, subst, length, ◌∙◌, arith}
+use Rattle.std.proofs.Common.{sym, ap, subst, length, ◌∙◌, arith}
 use Rattle.std.proofs.lemmas.Bool.{eqb-true}
 use Rattle.must_format.specs.Decoding.{call_at}
 use Rattle.must_codec.specs.Reader.{IsPlace}

@@ -1,4 +1,4 @@
-use Rattle.std.proofs.Common.{◌≡◌, ◌+◌, ◌-◌, ◌++◌, ℕ, List, true, cond, length}
+use Rattle.std.proofs.Common.{◌≡◌, ◌+◌, ◌-◌, ℕ, List, cond, length}
 use Rattle.std.specs.Prelude.{Some}
 use Rattle.must_codec.specs.declared.window.TheConstants.{CAPACITY}
 use Rattle.must_codec.specs.Views.{IsReady}

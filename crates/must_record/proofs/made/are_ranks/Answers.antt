@@ -1,6 +1,4 @@
-use Rattle.std.proofs.Common.{◌≡◌, ◌-◌, ◌++◌, ◌∷◌, [], refl, sym, ◌∙◌, rules, arith, subst}
-use Rattle.must_format.specs.declared.limits.TheConstants.{MOST_RANKS}
-use Rattle.must_format.specs.Decoding.{u32_at}
+use Rattle.std.proofs.Common.{◌≡◌, ◌-◌, ◌++◌, ◌∷◌, [], refl, sym, ◌∙◌, arith}
 use Rattle.must_format.specs.Stream.{has_rank}
 use Rattle.must_record.proofs.Marked.{no_marks, mark, past_refused, again_refused, member_next}
 use Rattle.must_record.proofs.made.are_ranks.Goals as goal

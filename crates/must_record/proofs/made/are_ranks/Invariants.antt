@@ -1,4 +1,4 @@
-use Rattle.std.proofs.Common.{◌≡◌, ◌++◌, ◌-◌, ◌*◌, ℕ, List, drop}
+use Rattle.std.proofs.Common.{◌≡◌, ◌++◌, ◌-◌, ℕ, List}
 use Rattle.must_call.specs.declared.field.Item.TheVariants as item
 use Rattle.must_format.specs.Decoding.{items_at}
 use Rattle.must_record.proofs.Marked.{Marked}

@@ -1,4 +1,3 @@
-use Rattle.std.proofs.Common.{refl}
 use Rattle.must_record.proofs.made.members_by.Goals as goal
 
 pub returns-in-MadeComm : goal.returns-in-MadeComm

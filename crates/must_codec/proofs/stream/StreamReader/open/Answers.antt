@@ -1,4 +1,3 @@
-use Rattle.std.proofs.Common.{sym}
 use Rattle.must_codec.proofs.Standing.{stands_fresh, opened_ok, opened_err}
 use Rattle.must_codec.proofs.stream.StreamReader.open.Goals as goal
 

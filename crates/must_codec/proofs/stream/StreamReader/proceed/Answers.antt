@@ -1,4 +1,4 @@
-use Rattle.std.proofs.Common.{◌≡◌, Some, sym, subst, ◌∙◌}
+use Rattle.std.proofs.Common.{◌≡◌, Some, sym, subst}
 use Rattle.must_codec.specs.Inside.{phase_of, header_in}
 use Rattle.must_codec.specs.Reader.{ReaderState, StandsBefore}
 use Rattle.must_codec.proofs.Standing.{stands_before, gave_call, gave_end, gave_err}

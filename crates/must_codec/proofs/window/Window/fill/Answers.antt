@@ -1,4 +1,4 @@
-use Rattle.std.proofs.Common.{◌∙◌, ◌-◌, ◌+◌, ap, drop, length, length-take, length-drop, arith}
+use Rattle.std.proofs.Common.{◌∙◌, ◌-◌, ap, drop, length, length-take, length-drop, arith}
 use Rattle.must_codec.proofs.Windows.{took}
 use Rattle.must_codec.proofs.window.Window.fill.Goals as goal
 

@@ -1,8 +1,4 @@
-use Rattle.std.proofs.Common.{sym, ap, ◌∙◌}
-use Rattle.must_call.specs.Fields.{output}
-use Rattle.must_call.specs.Made.{handle_given}
-use Rattle.must_call.specs.Values.{given}
-use Rattle.must_format.specs.Decoding.{requests_at, outcome_at}
+use Rattle.must_format.specs.Decoding.{requests_at}
 use Rattle.must_record.proofs.Decoded.{made_is}
 use Rattle.must_record.proofs.view.CallView.made.Goals as goal
 

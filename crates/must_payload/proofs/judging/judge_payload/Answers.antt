@@ -1,7 +1,7 @@
 use Rattle.std.proofs.Common.{arith}
 use Rattle.must_call.specs.Fields.{inputs}
 use Rattle.must_format.specs.FieldLaws.{inputs_good}
-use Rattle.must_record.proofs.judging.judge_payload.Goals as goal
+use Rattle.must_payload.proofs.judging.judge_payload.Goals as goal
 
 pub returns-clause-outputs : goal.returns-clause-outputs
 returns-clause-outputs c =

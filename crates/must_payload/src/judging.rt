@@ -6,11 +6,11 @@ ghost use Rattle.must_format.specs.Values.{requests, width};
 ghost use Rattle.must_format.specs.Decoding.{u32_at, list_at, value_at, requests_at, behind_all};
 ghost use Rattle.must_format.specs.Judging.{Gives, past, past_bit, past_list, one, all_of, past_status, past_statuses, past_flagged, choice_index, past_choice, completion_index, past_completion, past_all_completions, past_completions, past_output, past_outcome, whole, nothing_left as nothing_left_of};
 ghost use Rattle.must_format.specs.Record.{end_whole};
-ghost use Rattle.must_record.specs.Views.{outputs_whole};
+ghost use Rattle.must_payload.specs.Outputs.{outputs_whole};
 
+use crate::tables::{inputs_of, output_of};
 use must_call::{Field, Item, Kind, Output};
 use must_format::Cause;
-use must_payload::{inputs_of, output_of};
 use must_value::Cursor;
 
 /// What is left behind the first n bytes.
