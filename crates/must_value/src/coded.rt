@@ -1,11 +1,12 @@
 //! Values of one width, of which lists are made.
 
-ghost use Rattle.std.specs.Prelude.{◌≡◌, ◌++◌, ◌↔◌, ◌<◌, ◌^◌, ℕ, List, drop, OnOk, IsTrue};
+ghost use Rattle.std.specs.Prelude.{◌≡◌, ◌++◌, ◌↔◌, ◌<◌, ◌^◌, ℕ, List, drop, OnOk, OnErr, IsTrue};
 ghost use Rattle.must_call.specs.declared.field.Item.TheVariants as item;
 ghost use Rattle.must_call.specs.declared.field.Ints.TheVariants as ints;
 ghost use Rattle.must_call.specs.declared.field.Side.TheVariants as side;
 ghost use Rattle.must_format.specs.Decoding.{item_at, status_at, completion_at};
 ghost use Rattle.must_format.specs.Values.{item_text, width, IsItem, IsStatus, status_text, completion_text};
+ghost use Rattle.must_value.specs.Fronts.{IsFrontBehind};
 
 use crate::cursor::Cursor;
 use crate::putting::{put_bit, put_i32, put_i64, put_u32};
@@ -30,7 +31,8 @@ pub trait Coded: Copy + Drop {
 
     /// Appends the value. Without memory a front of it may stand.
     fn put(self, out: &mut Vec<u8>) -> Result<(), NoMemory>
-        ensures { OnOk result (out.new.items ≡ out.old.items ++ text self) };
+        ensures ok { OnOk result (out.new.items ≡ out.old.items ++ text self) }
+        ensures front { OnErr result (IsFrontBehind out.old.items (text self) out.new.items) };
 
     /// Whether a record may have the value: it may have each value of these types.
     fn fits(self) -> bool

@@ -1,0 +1,4 @@
+pub mod Fronts
+pub mod FrontLaws
+pub mod Behind
+pub mod BehindLaws
