@@ -1,0 +1,65 @@
+-- The findings of one rank's calls.
+use Rattle.std.specs.Prelude.{◌≡◌, ℕ, ◌==◌, if◌then◌else◌, List, Option, Some, None, length, take, slice_get}
+use Rattle.must_call.specs.declared.class.Class.TheVariants.{Comm, Group, Datatype, Operation, Request}
+use Rattle.must_call.specs.declared.call.Call.{Call}
+use Rattle.must_find.specs.declared.rule.Rule.{Rule}
+use Rattle.must_find.specs.declared.rule.Rule.TheVariants.{I1, I2, I3, A1, A2, L1, L2, L3, L4, L5}
+use Rattle.must_find.specs.declared.finding.Finding.{Finding}
+use Rattle.must_rules.specs.Answer.{Answer, at_part}
+use Rattle.must_rules.specs.Rank.{Rank}
+use Rattle.must_rules.specs.Counts.{negative_count}
+use Rattle.must_rules.specs.Peers.{peer_out_of_range}
+use Rattle.must_rules.specs.Frames.{outside_init, after_finalize, no_finalize}
+use Rattle.must_rules.specs.Leaks.{not_freed}
+
+-- what a rule finds at a call by looking at it and at the earlier calls of its rank
+abbrev pub finding_behind : Rank → (earlier : List Call) → Call → Rule → (part : ℕ) → Option Answer
+finding_behind r earlier call I1 part = at_part 0 (outside_init r earlier call) part
+finding_behind r earlier call I2 part = at_part 0 (after_finalize r earlier) part
+finding_behind r earlier call A1 part = negative_count call part
+finding_behind r earlier call A2 part = peer_out_of_range r.size call part
+finding_behind r earlier call L1 part = not_freed Datatype r earlier call part
+finding_behind r earlier call L2 part = not_freed Comm r earlier call part
+finding_behind r earlier call L3 part = not_freed Group r earlier call part
+finding_behind r earlier call L4 part = not_freed Operation r earlier call part
+finding_behind r earlier call L5 part = not_freed Request r earlier call part
+finding_behind r earlier call rule part = None
+
+-- what a rule finds at call k by looking at all calls of its rank; k may be one past the last
+abbrev pub finding_whole : Rank → (calls : List Call) → (k : ℕ) → Rule → (part : ℕ) → Option Answer
+finding_whole r calls k I3 part = if k == length calls then at_part 0 (no_finalize calls) part else None
+finding_whole r calls k rule part = None
+
+abbrev pub finding_here : Rank → List Call → Option Call → Rule → ℕ → Option Answer
+finding_here r earlier None rule part = None
+finding_here r earlier (Some call) rule part = finding_behind r earlier call rule part
+
+-- either, of which one at most finds something
+abbrev pub either : Option Answer → Option Answer → Option Answer
+either None other = other
+either (Some answer) other = Some answer
+
+-- what a rule finds at a part of call k of a rank
+abbrev pub local_finding : Rank → (calls : List Call) → (k : ℕ) → Rule → (part : ℕ) → Option Answer
+local_finding r calls k rule part = either (finding_here r (take k calls) (slice_get calls k) rule part) (finding_whole r calls k rule part)
+
+-- a rule gives this finding at its place
+pub record IsLocal (r : Rank) (calls : List Call) (f : Finding) : Type 0 where
+  pub rank_is : f.rank ≡ r.rank
+  pub gives : local_finding r calls f.call f.rule f.part ≡ Some (f.see, f.value)
+
+-- the finding stands at this call, by the call and the earlier ones
+pub record IsBehind (r : Rank) (earlier : List Call) (call : Call) (f : Finding) : Type 0 where
+  pub rank_is : f.rank ≡ r.rank
+  pub call_is : f.call ≡ length earlier
+  pub gives : finding_behind r earlier call f.rule f.part ≡ Some (f.see, f.value)
+
+-- the finding stands at a call that is there, by that call and the earlier ones
+pub record IsHere (r : Rank) (calls : List Call) (f : Finding) : Type 0 where
+  pub rank_is : f.rank ≡ r.rank
+  pub gives : finding_here r (take f.call calls) (slice_get calls f.call) f.rule f.part ≡ Some (f.see, f.value)
+
+-- the finding stands there by all calls
+pub record IsWhole (r : Rank) (calls : List Call) (f : Finding) : Type 0 where
+  pub rank_is : f.rank ≡ r.rank
+  pub gives : finding_whole r calls f.call f.rule f.part ≡ Some (f.see, f.value)
