@@ -1,5 +1,5 @@
 -- How lives change by one call more.
-use Rattle.std.proofs.Common.{◌≡◌, ℕ, zero, suc, ◌+◌, ◌<◌, Bool, true, false, cond, ◌&&◌, ◌||◌, List, [], ◌∷◌, ◌++◌, length, Option, Some, None, refl, sym, ap, ◌∙◌, arith}
+use Rattle.std.proofs.Common.{◌≡◌, ℕ, zero, suc, ◌+◌, ◌<◌, Bool, true, false, cond, ◌&&◌, ◌||◌, List, [], ◌∷◌, ◌++◌, length, Option, Some, None, refl, ap, ◌∙◌, arith}
 use Rattle.std.specs.Prelude.{not, if◌then◌else◌, reverse, slice_get}
 use Rattle.std.specs.List.{filter_map, cons_option}
 use Rattle.std.proofs.lemmas.List.{reverse-append, reverse-reverse}
@@ -11,7 +11,7 @@ use Rattle.must_call.specs.declared.call.Call.{Call}
 use Rattle.must_call.specs.Handles.{ClassedHandle}
 use Rattle.must_rules.specs.Search.{first_where, first_behind, or_then, only_if}
 use Rattle.must_rules.specs.SearchLaws.{first_more, first_within, behind_more, behind_last}
-use Rattle.must_rules.specs.Making.{makes, frees, completes, persists, made_by, commits, copies}
+use Rattle.must_rules.specs.Making.{makes, persists, made_by, commits, copies}
 use Rattle.must_rules.specs.Lives.{ends, is_predefined, persists_in, life, life_by, life_from, is_kept, is_kept_by, committed, committed_by, commits_live, copies_committed, made_count}
 
 -- the life of a handle after one more call, of which these say whether it makes the handle and whether it ends it

@@ -1,6 +1,6 @@
 -- A call that makes a handle frees, completes, commits and starts none.
-use Rattle.std.proofs.Common.{◌≡◌, ℕ, ◌<◌, ◌≤◌, Bool, true, false, cond, ◌&&◌, ◌||◌, List, [], Option, Some, None, refl, sym, ap, ◌∙◌, arith}
-use Rattle.std.specs.Prelude.{not, nat_lt, if◌then◌else◌}
+use Rattle.std.proofs.Common.{◌≡◌, ℕ, Bool, true, false, cond, ◌&&◌, ◌||◌, List, [], Option, Some, None, refl, ap, ◌∙◌}
+use Rattle.std.specs.Prelude.{not, nat_lt}
 use Rattle.must_call.specs.declared.class.Class.{Class}
 use Rattle.must_call.specs.declared.class.Class.TheVariants.{Comm, Group, Datatype, Operation, Request}
 use Rattle.must_call.specs.declared.constants.TheConstants.{FIRST_MADE}
@@ -17,7 +17,7 @@ use Rattle.must_call.specs.Values.{OutputValue, TypedOutput}
 use Rattle.must_call.specs.Bodies.{given_of}
 use Rattle.must_call.specs.Handles.{ClassedHandle}
 use Rattle.must_call.specs.Made.{made_handle, handle_given, made_of}
-use Rattle.must_rules.specs.Making.{same_class, is_handle, is_in, numbered, made_by, freed_of, requests_of, completed_by, completed_among, completed_of, frees, completes, committed_of, commits, started_of}
+use Rattle.must_rules.specs.Making.{same_class, is_handle, is_in, numbered, made_by, freed_of, requests_of, completed_by, completed_among, frees, completes, committed_of, commits, started_of}
 use Rattle.must_rules.specs.Lives.{ends}
 
 pub same_class_is : (c d : Class) → same_class c d ≡ true → c ≡ d

@@ -1,7 +1,7 @@
 -- A call of a list whose handles are numbered.
-use Rattle.std.proofs.Common.{◌≡◌, ℕ, zero, suc, ◌+◌, Bool, true, false, cond, ◌||◌, ◌==◌, List, [], ◌∷◌, length, take, Option, Some, None, refl, sym, ap, subst, ◌∙◌, arith}
+use Rattle.std.proofs.Common.{◌≡◌, ℕ, zero, suc, ◌+◌, Bool, true, false, cond, ◌||◌, List, [], ◌∷◌, length, take, Option, Some, None, refl, ap, subst, ◌∙◌, arith}
 use Rattle.std.specs.Prelude.{not, nat_lt, slice_get}
-use Rattle.std.specs.List.{list_any, filter, filter_map, cons_option}
+use Rattle.std.specs.List.{filter, filter_map, cons_option}
 use Rattle.std.proofs.lemmas.Option.{none-some}
 use Rattle.must_call.specs.declared.call.Call.{Call}
 use Rattle.must_call.specs.Handles.{ClassedHandle}

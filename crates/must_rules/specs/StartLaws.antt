@@ -1,5 +1,5 @@
 -- How the start of a request changes by one call more.
-use Rattle.std.proofs.Common.{◌≡◌, ℕ, ◌+◌, Bool, true, false, cond, ◌&&◌, ◌||◌, List, [], ◌∷◌, ◌++◌, length, Option, Some, None, refl, sym, ap, ◌∙◌}
+use Rattle.std.proofs.Common.{◌≡◌, ℕ, Bool, true, false, cond, ◌&&◌, ◌||◌, List, [], ◌∷◌, ◌++◌, length, Option, Some, None, refl, sym, ap, ◌∙◌}
 use Rattle.std.specs.Prelude.{not, if◌then◌else◌, reverse}
 use Rattle.std.proofs.lemmas.List.{reverse-append, reverse-reverse, length-reverse}
 use Rattle.must_call.specs.declared.class.Class.TheVariants.{Request}
@@ -14,7 +14,7 @@ use Rattle.must_rules.specs.Search.{or_then, only_if}
 use Rattle.must_rules.specs.Making.{is_in, made_by, makes, frees, completes, persists, started_of}
 use Rattle.must_rules.specs.MakingLaws.{made_starts}
 use Rattle.must_rules.specs.Lives.{ends, life, is_kept}
-use Rattle.must_rules.specs.LifeLaws.{next_life, next_kept, life_more, kept_more, kept_never, kept_first, life_first}
+use Rattle.must_rules.specs.LifeLaws.{next_life, next_kept, life_more, kept_more, kept_never, life_first}
 use Rattle.must_rules.specs.Starts.{Clearness, names_to_start, under_way_by, start_by, start_of, is_start_kind, TellsClear}
 
 -- the start after one more call, by what it does and by what was there
