@@ -25,3 +25,10 @@ pub mod Local
 pub mod LocalLaws
 pub mod RunRows
 pub mod RunRowLaws
+pub mod Facts
+pub mod Significant
+pub mod Breaches
+pub mod ArgumentRules
+pub mod ArgumentHandles
+pub mod Clear
+pub mod UsableParts
