@@ -1,0 +1,264 @@
+-- A walk stands for one call more.
+use Rattle.std.proofs.Common.{◌≡◌, ℕ, ◌+◌, Bool, true, false, cond, ◌==◌, List, [], ◌∷◌, ◌++◌, length, Option, Some, None, refl, sym, ap, subst, ◌∙◌, inl, inr, arith, length-append, append_assoc}
+use Rattle.std.specs.Prelude.{◌⊎◌, ◌↔◌, ◌&&◌, is_none, slice_get}
+use Rattle.std.specs.List.{AllByRecursion}
+use Rattle.std.proofs.lemmas.List.{append-nil}
+use Rattle.std.proofs.lemmas.Bool.{eqb-true, eq-eqb}
+use Rattle.must_call.specs.declared.class.Class.{Class}
+use Rattle.must_call.specs.declared.class.Class.TheVariants.{Comm, Group, Datatype, Operation, Request}
+use Rattle.must_call.specs.declared.call.Call.{Call}
+use Rattle.must_find.specs.declared.rule.Rule.{Rule}
+use Rattle.must_find.specs.declared.rule.Rule.TheVariants.{I1, I2, I3, A1, A2, L1, L2, L3, L4, L5}
+use Rattle.must_find.specs.declared.finding.Finding.{Finding}
+use Rattle.must_base.specs.Listing.{Has, Rises}
+use Rattle.must_find.specs.Order.{by_all}
+use Rattle.must_find.specs.OrderLaws.{by_all_total}
+use Rattle.must_rules.specs.Answer.{Answer, at_part}
+use Rattle.must_rules.specs.Counts.{count_below_zero}
+use Rattle.must_rules.specs.Peers.{peer_outside}
+use Rattle.must_rules.specs.Rank.{Rank}
+use Rattle.must_rules.specs.Search.{first_where, or_then, only_if}
+use Rattle.must_rules.specs.SearchLaws.{first_more}
+use Rattle.must_rules.specs.Frames.{is_init, is_finalize, first_init, first_finalize, ends_returned, last_returned, init_answer, seeing, outside_init, after_finalize, missing, no_finalize}
+use Rattle.must_rules.specs.Lives.{open_handles}
+use Rattle.must_rules.specs.Leaks.{ends_rank, leak, leak_in, not_freed}
+use Rattle.must_rules.specs.Local.{finding_behind, finding_whole, IsBehind, IsHere, IsWhole, IsLocal}
+use Rattle.must_rules.specs.LocalLaws.{here_none, here_more, here_again, here_last, here_within, here_whole, local_here, local_whole, local_cases}
+use Rattle.must_local.specs.Distinct.{AreDistinct}
+use Rattle.must_local.specs.DistinctLaws.{has_append, has_front, has_behind, distinct_append, rises_distinct}
+use Rattle.must_rules.specs.Walk.{Adds}
+use Rattle.must_rules.specs.Starts.{TellsClear}
+use Rattle.must_handle.specs.Slots.{Stands}
+use Rattle.must_local.specs.declared.batch.Batch.{Batch}
+use Rattle.must_local.specs.Entries.{rows_of}
+use Rattle.must_local.specs.Adding.{IsOfRule, FrameRows, ArgumentRows, ClassRows, LeakRows, LeakRowsAt, RowsAt, RowsAtEnd}
+use Rattle.must_local.specs.Walks.{WalkState, rank_by, Knows, Walks, GivesAll, IsMiddle, all_rows, taken_clear}
+
+-- ---- the tables
+
+returned_more : (b : Bool) (calls : List Call) (call : Call) → last_returned b (calls ++ call ∷ []) ≡ call.returned
+returned_more b [] call = refl
+returned_more b (c ∷ calls) call = returned_more c.returned calls call
+
+first_next : (test : Call → Bool) (calls : List Call) (call : Call) (o : Option ℕ) (k : ℕ) → o ≡ first_where test calls → k ≡ length calls
+    → or_then o (only_if (test call) k) ≡ first_where test (calls ++ call ∷ [])
+first_next test calls call o k e n = ap (λ (x : Option ℕ). or_then x (only_if (test call) k)) e ∙ ap (λ m. or_then (first_where test calls) (only_if (test call) m)) n ∙ sym (first_more test calls call)
+
+pub knows_next : (w v : WalkState) (calls : List Call) (call : Call) → Knows w calls → v.number ≡ w.number + 1 → v.init ≡ or_then w.init (only_if (is_init call) w.number) → v.finalize ≡ or_then w.finalize (only_if (is_finalize call) w.number)
+    → v.returned ≡ call.returned → Stands taken_clear v.slots (calls ++ call ∷ []) → Knows v (calls ++ call ∷ [])
+knows_next w v calls call knows n i f r stands = record {
+  number = omega (arith, n, knows.number, length-append calls (call ∷ []));
+  init = i ∙ first_next is_init calls call w.init w.number knows.init knows.number;
+  finalize = f ∙ first_next is_finalize calls call w.finalize w.number knows.finalize knows.number;
+  returned = r ∙ sym (returned_more true calls call);
+  lives = stands;
+}
+
+-- ---- the rows of a call
+
+abbrev AllRows : Rank → List Call → Call → Finding → Type 0
+AllRows r calls call f =
+    FrameRows r.rank (length calls) (first_init calls) (first_finalize calls) call f
+    ⊎ (ArgumentRows r.rank (length calls) r.size call f ⊎ LeakRowsAt r.rank (length calls) (ends_rank calls call) calls f)
+
+no_answer : (a : Answer) {P : Type 0} → None ≡ Some a → P
+no_answer a e = absurd cc
+
+of_rule : (r : Rank) (calls : List Call) (rule : Rule) (answers : ℕ → Option Answer) (f : Finding) → f.rank ≡ r.rank → f.call ≡ length calls → f.rule ≡ rule → answers f.part ≡ Some (f.see, f.value) → IsOfRule r.rank (length calls) rule answers f
+of_rule r calls rule answers f a b c d = record { rank_is = a; call_is = b; rule_is = c; gives = d }
+
+leaks_from : (r : Rank) (calls : List Call) (class : Class) (rule : Rule) (f : Finding) (b : Bool) → f.rank ≡ r.rank → f.call ≡ length calls → f.rule ≡ rule → leak_in r.rank b (open_handles calls class) f.part ≡ Some (f.see, f.value)
+    → (ClassRows r.rank (length calls) class rule calls f → LeakRows r.rank (length calls) calls f) → LeakRowsAt r.rank (length calls) b calls f
+leaks_from r calls class rule f true a n c d to = to (of_rule r calls rule (λ p. leak r.rank (slice_get (open_handles calls class) p)) f a n c d)
+leaks_from r calls class rule f false a n c d to = no_answer (f.see, f.value) d
+
+cases_by : (r : Rank) (calls : List Call) (call : Call) (f : Finding) (rule : Rule) → f.rule ≡ rule → f.rank ≡ r.rank → f.call ≡ length calls → finding_behind r calls call rule f.part ≡ Some (f.see, f.value) → AllRows r calls call f
+unfolding outside_init after_finalize not_freed
+cases_by r calls call f I1 e a n d = inl (inl (of_rule r calls I1 (at_part 0 (init_answer r.rank (is_init call) (first_init calls))) f a n e d))
+cases_by r calls call f I2 e a n d = inl (inr (of_rule r calls I2 (at_part 0 (seeing r.rank (first_finalize calls))) f a n e d))
+cases_by r calls call f A1 e a n d = inr (inl (inl (of_rule r calls A1 (at_part 0 (count_below_zero call)) f a n e d)))
+cases_by r calls call f A2 e a n d = inr (inl (inr (of_rule r calls A2 (at_part 0 (peer_outside r.size call)) f a n e d)))
+cases_by r calls call f L1 e a n d = inr (inr (leaks_from r calls Datatype L1 f (ends_rank calls call) a n e d (λ x. inl x)))
+cases_by r calls call f L2 e a n d = inr (inr (leaks_from r calls Comm L2 f (ends_rank calls call) a n e d (λ x. inr (inl x))))
+cases_by r calls call f L3 e a n d = inr (inr (leaks_from r calls Group L3 f (ends_rank calls call) a n e d (λ x. inr (inr (inl x)))))
+cases_by r calls call f L4 e a n d = inr (inr (leaks_from r calls Operation L4 f (ends_rank calls call) a n e d (λ x. inr (inr (inr (inl x))))))
+cases_by r calls call f L5 e a n d = inr (inr (leaks_from r calls Request L5 f (ends_rank calls call) a n e d (λ x. inr (inr (inr (inr x))))))
+cases_by r calls call f _ e a n d = no_answer (f.see, f.value) d
+
+-- a finding of a rule is one of the call
+by_rule : (r : Rank) (calls : List Call) (call : Call) (rule : Rule) (answers : ℕ → Option Answer) (f : Finding) → IsOfRule r.rank (length calls) rule answers f → finding_behind r calls call rule f.part ≡ answers f.part → IsBehind r calls call f
+by_rule r calls call rule answers f is e = record { rank_is = is.rank_is; call_is = is.call_is; gives = ap (λ (x : Rule). finding_behind r calls call x f.part) is.rule_is ∙ e ∙ is.gives }
+
+frames_to : (r : Rank) (calls : List Call) (call : Call) (f : Finding) → FrameRows r.rank (length calls) (first_init calls) (first_finalize calls) call f → IsBehind r calls call f
+unfolding outside_init after_finalize
+frames_to r calls call f (inl is) = by_rule r calls call I1 (at_part 0 (init_answer r.rank (is_init call) (first_init calls))) f is refl
+frames_to r calls call f (inr is) = by_rule r calls call I2 (at_part 0 (seeing r.rank (first_finalize calls))) f is refl
+
+arguments_to : (r : Rank) (calls : List Call) (call : Call) (f : Finding) → ArgumentRows r.rank (length calls) r.size call f → IsBehind r calls call f
+arguments_to r calls call f (inl is) = by_rule r calls call A1 (at_part 0 (count_below_zero call)) f is refl
+arguments_to r calls call f (inr is) = by_rule r calls call A2 (at_part 0 (peer_outside r.size call)) f is refl
+
+leaks_to : (r : Rank) (calls : List Call) (call : Call) (f : Finding) (b : Bool) → ends_rank calls call ≡ b → LeakRowsAt r.rank (length calls) b calls f → IsBehind r calls call f
+unfolding not_freed
+leaks_to r calls call f false e h = absurd h
+leaks_to r calls call f true e (inl is) = by_rule r calls call L1 (λ p. leak r.rank (slice_get (open_handles calls Datatype) p)) f is (ap (λ b. leak_in r.rank b (open_handles calls Datatype) f.part) e)
+leaks_to r calls call f true e (inr (inl is)) = by_rule r calls call L2 (λ p. leak r.rank (slice_get (open_handles calls Comm) p)) f is (ap (λ b. leak_in r.rank b (open_handles calls Comm) f.part) e)
+leaks_to r calls call f true e (inr (inr (inl is))) = by_rule r calls call L3 (λ p. leak r.rank (slice_get (open_handles calls Group) p)) f is (ap (λ b. leak_in r.rank b (open_handles calls Group) f.part) e)
+leaks_to r calls call f true e (inr (inr (inr (inl is)))) = by_rule r calls call L4 (λ p. leak r.rank (slice_get (open_handles calls Operation) p)) f is (ap (λ b. leak_in r.rank b (open_handles calls Operation) f.part) e)
+leaks_to r calls call f true e (inr (inr (inr (inr is)))) = by_rule r calls call L5 (λ p. leak r.rank (slice_get (open_handles calls Request) p)) f is (ap (λ b. leak_in r.rank b (open_handles calls Request) f.part) e)
+
+-- what the three families add is what stands at the call
+pub rows_behind : (r : Rank) (calls : List Call) (call : Call) (a b d : List Finding)
+    → Adds [] a (FrameRows r.rank (length calls) (first_init calls) (first_finalize calls) call) → Adds a b (ArgumentRows r.rank (length calls) r.size call)
+    → Adds b d (LeakRowsAt r.rank (length calls) (ends_rank calls call) calls) → Rises by_all d → RowsAt r calls call d
+rows_behind r calls call a b d frames arguments leaks rises = record {
+  rises = rises;
+  exact = λ f. (
+    λ h. elim ((leaks f).0 h) [
+      | inl in_b ↦ elim ((arguments f).0 in_b) [
+        | inl in_a ↦ elim ((frames f).0 in_a) [ inl none ↦ absurd none | inr is ↦ frames_to r calls call f is ]
+        | inr is ↦ arguments_to r calls call f is
+      ]
+      | inr is ↦ leaks_to r calls call f (ends_rank calls call) refl is
+    ],
+    λ is. elim (cases_by r calls call f f.rule refl is.rank_is is.call_is is.gives) [
+      | inl x ↦ (leaks f).1 (inl ((arguments f).1 (inl ((frames f).1 (inr x)))))
+      | inr (inl x) ↦ (leaks f).1 (inl ((arguments f).1 (inr x)))
+      | inr (inr x) ↦ (leaks f).1 (inr x)
+    ],
+  );
+}
+
+-- the same, by what the tables tell
+pub rows_known : (version : ℕ) (w : WalkState) (calls : List Call) (call : Call) (ends : Bool) (a b d : List Finding) → Knows w calls → ends ≡ is_finalize call && is_none w.finalize
+    → Adds [] a (FrameRows (rank_by version w.rank).rank w.number w.init w.finalize call) → Adds a b (ArgumentRows (rank_by version w.rank).rank w.number (rank_by version w.rank).size call)
+    → Adds b d (LeakRowsAt (rank_by version w.rank).rank w.number ends calls) → Rises by_all d → RowsAt (rank_by version w.rank) calls call d
+rows_known version w calls call ends a b d knows e frames arguments leaks rises =
+    let r = rank_by version w.rank in
+    let n = knows.number in
+    rows_behind r calls call a b d
+    (subst (λ (o : Option ℕ). Adds [] a (FrameRows r.rank (length calls) (first_init calls) o call)) knows.finalize
+    (subst (λ (o : Option ℕ). Adds [] a (FrameRows r.rank (length calls) o w.finalize call)) knows.init
+    (subst (λ (m : ℕ). Adds [] a (FrameRows r.rank m w.init w.finalize call)) n frames)))
+    (subst (λ (m : ℕ). Adds a b (ArgumentRows r.rank m r.size call)) n arguments)
+    (subst (λ (x : Bool). Adds b d (LeakRowsAt r.rank (length calls) x calls)) (e ∙ ap (λ (o : Option ℕ). is_finalize call && is_none o) knows.finalize)
+    (subst (λ (m : ℕ). Adds b d (LeakRowsAt r.rank m ends calls)) n leaks))
+    rises
+
+-- ---- the batches
+
+-- before the first call
+pub walks_first : (version : ℕ) (w : WalkState) → w.number ≡ 0 → w.init ≡ None → w.finalize ≡ None → w.returned ≡ true → Stands taken_clear w.slots [] → Walks version w [] []
+walks_first version w n i f r stands = record {
+  knows = record { number = n; init = i; finalize = f; returned = r; lives = stands };
+  once = tt;
+  rows = λ g. (λ h. absurd h, λ is. absurd (here_none (rank_by version w.rank) g is));
+  middle = tt;
+}
+
+all_more : (given : List Batch) (batch : Batch) → all_rows (given ++ batch ∷ []) ≡ all_rows given ++ rows_of batch.entries
+all_more [] batch = append-nil (rows_of batch.entries)
+all_more (b ∷ given) batch = ap (λ (fs : List Finding). rows_of b.entries ++ fs) (all_more given batch) ∙ sym (append_assoc (rows_of b.entries) (all_rows given) (rows_of batch.entries))
+
+all_push : {X : Type 0} (P : X → Type 0) (xs : List X) (x : X) → AllByRecursion P xs → P x → AllByRecursion P (xs ++ x ∷ [])
+all_push P [] x all p = (p, tt)
+all_push P (y ∷ ys) x all p = (all.0, all_push P ys x all.1 p)
+
+-- rows that come behind others, with none of those
+pub record Joins (P : Finding → Type 0) (fs : List Finding) : Type 0 where
+  pub once : AreDistinct fs
+  pub rows : (f : Finding) → Has fs f ↔ P f
+
+joined : (P Q R : Finding → Type 0) (fs gs : List Finding) → Joins P fs → Joins Q gs → ((f : Finding) → P f → Q f → ⊥) → ((f : Finding) → P f → R f) → ((f : Finding) → Q f → R f) → ((f : Finding) → R f → P f ⊎ Q f) → Joins R (fs ++ gs)
+joined P Q R fs gs old new apart p q r = record {
+  once = distinct_append fs gs old.once new.once (λ f h k. apart f ((old.rows f).0 h) ((new.rows f).0 k));
+  rows = λ f. (
+    λ h. elim (has_append fs gs f h) [ inl there ↦ p f ((old.rows f).0 there) | inr there ↦ q f ((new.rows f).0 there) ],
+    λ is. elim (r f is) [ inl x ↦ has_front fs gs f ((old.rows f).1 x) | inr x ↦ has_behind fs gs f ((new.rows f).1 x) ],
+  );
+}
+
+pub walks_more : (version : ℕ) (w v : WalkState) (calls : List Call) (call : Call) (given : List Batch) (batch : Batch) (rows : List Finding) → Knows v (calls ++ call ∷ []) → v.rank ≡ w.rank → RowsAt (rank_by version w.rank) calls call rows
+    → rows_of batch.entries ≡ rows → batch.rank ≡ (rank_by version w.rank).rank → batch.last ≡ false → Walks version w calls given → Walks version v (calls ++ call ∷ []) (given ++ batch ∷ [])
+walks_more version w v calls call given batch rows knows same at are rank_is goes_on walks =
+    let r = rank_by version w.rank in
+    let r_is : rank_by version v.rank ≡ r = ap (rank_by version) same in
+    let new : Joins (IsBehind r calls call) (rows_of batch.entries) = subst (Joins (IsBehind r calls call)) (sym are) (record { once = rises_distinct by_all by_all_total rows at.rises; rows = at.exact }) in
+    let all = joined (IsHere r calls) (IsBehind r calls call) (IsHere r (calls ++ call ∷ [])) (all_rows given) (rows_of batch.entries) (record { once = walks.once; rows = walks.rows }) new
+    (λ f h k. absurd (omega (arith, here_within r calls f h, k.call_is))) (here_again r calls call) (here_last r calls call) (here_more r calls call) in
+    let here : Joins (IsHere (rank_by version v.rank) (calls ++ call ∷ [])) (all_rows (given ++ batch ∷ [])) =
+    subst (λ (s : Rank). Joins (IsHere s (calls ++ call ∷ [])) (all_rows (given ++ batch ∷ []))) (sym r_is) (subst (Joins (IsHere r (calls ++ call ∷ []))) (sym (all_more given batch)) all) in
+    record {
+      knows = knows;
+      once = here.once;
+      rows = here.rows;
+      middle = subst (λ (s : Rank). AllByRecursion (IsMiddle s.rank) (given ++ batch ∷ [])) (sym r_is) (all_push (IsMiddle r.rank) given batch walks.middle (record { rank_is = rank_is; goes_on = goes_on }));
+    }
+
+-- ---- the same of a walk whose fields tell its state
+
+pub rows_seen : (version : ℕ) (w x : WalkState) → w ≡ x → (calls : List Call) (call : Call) (is ends : Bool) (z a b d : List Finding) → z ≡ [] → Knows x calls → is ≡ is_finalize call → ends ≡ is && is_none w.finalize
+    → Adds z a (FrameRows (rank_by version w.rank).rank w.number w.init w.finalize call) → Adds a b (ArgumentRows (rank_by version w.rank).rank w.number (rank_by version w.rank).size call)
+    → (Stands taken_clear w.slots calls → Adds b d (LeakRowsAt (rank_by version w.rank).rank w.number ends calls)) → Rises by_all d → RowsAt (rank_by version x.rank) calls call d
+rows_seen version w x e calls call is ends z a b d none knows f g frames arguments leaks rises =
+    let k : Knows w calls = subst (λ (v : WalkState). Knows v calls) (sym e) knows in
+    subst (λ (v : WalkState). RowsAt (rank_by version v.rank) calls call d) e
+    (rows_known version w calls call ends a b d k (g ∙ ap (λ (b : Bool). b && is_none w.finalize) f)
+    (subst (λ (y : List Finding). Adds y a (FrameRows (rank_by version w.rank).rank w.number w.init w.finalize call)) none frames) arguments (leaks k.lives) rises)
+
+pub knows_seen : (w x v : WalkState) → w ≡ x → (calls : List Call) (call : Call) (i f : Bool) → Knows x calls → i ≡ is_init call → f ≡ is_finalize call → v.number ≡ w.number + 1 → v.init ≡ or_then w.init (only_if i w.number)
+    → v.finalize ≡ or_then w.finalize (only_if f w.number) → v.returned ≡ call.returned
+    → (length calls ≡ w.number → TellsClear taken_clear calls call true → Stands taken_clear w.slots calls → Stands taken_clear v.slots (calls ++ call ∷ [])) → Knows v (calls ++ call ∷ [])
+knows_seen w x v e calls call i f knows is fs n init finalize returned stands =
+    let k : Knows w calls = subst (λ (u : WalkState). Knows u calls) (sym e) knows in
+    knows_next w v calls call k n (init ∙ ap (λ (b : Bool). or_then w.init (only_if b w.number)) is) (finalize ∙ ap (λ (b : Bool). or_then w.finalize (only_if b w.number)) fs) returned (stands (sym k.number) (λ e. refl) k.lives)
+
+-- ---- the end
+
+ended : (b : Bool) (answer : Option Answer) (part : ℕ) (a : Answer) {P : Type 0} → cond b (at_part 0 answer part) None ≡ Some a → (b ≡ true → at_part 0 answer part ≡ Some a → P) → P
+ended true answer part a e f = f refl e
+ended false answer part a e f = no_answer a e
+
+whole_by : (r : Rank) (calls : List Call) (f : Finding) (rule : Rule) → f.rule ≡ rule → f.rank ≡ r.rank → finding_whole r calls f.call rule f.part ≡ Some (f.see, f.value)
+    → IsOfRule r.rank (length calls) I3 (at_part 0 (missing (ends_returned calls) (first_finalize calls))) f
+unfolding no_finalize
+whole_by r calls f I3 e a d = ended (f.call == length calls) (missing (ends_returned calls) (first_finalize calls)) f.part (f.see, f.value) d
+    (λ same gives. record { rank_is = a; call_is = eqb-true f.call (length calls) same; rule_is = e; gives = gives })
+whole_by r calls f _ e a d = no_answer (f.see, f.value) d
+
+whole_from : (r : Rank) (calls : List Call) (f : Finding) → IsOfRule r.rank (length calls) I3 (at_part 0 (missing (ends_returned calls) (first_finalize calls))) f → IsWhole r calls f
+unfolding no_finalize
+whole_from r calls f is = record {
+  rank_is = is.rank_is;
+  gives =
+      ap (λ (x : Rule). finding_whole r calls f.call x f.part) is.rule_is
+      ∙ ap (λ (b : Bool). cond b (at_part 0 (missing (ends_returned calls) (first_finalize calls)) f.part) None) (eq-eqb f.call (length calls) is.call_is)
+      ∙ is.gives;
+}
+
+pub end_seen : (version : ℕ) (w x : WalkState) → w ≡ x → (calls : List Call) (z a : List Finding) → z ≡ [] → Knows x calls → Adds z a (IsOfRule (rank_by version w.rank).rank w.number I3 (at_part 0 (missing w.returned w.finalize))) → Rises by_all a → RowsAtEnd (rank_by version x.rank) calls a
+end_seen version w x e calls z a none knows adds rises =
+    let k : Knows w calls = subst (λ (v : WalkState). Knows v calls) (sym e) knows in
+    let r = rank_by version w.rank in
+    let all : Adds [] a (IsOfRule r.rank (length calls) I3 (at_part 0 (missing (ends_returned calls) (first_finalize calls)))) =
+    subst (λ (y : List Finding). Adds y a (IsOfRule r.rank (length calls) I3 (at_part 0 (missing (ends_returned calls) (first_finalize calls))))) none
+    (subst (λ (m : ℕ). Adds z a (IsOfRule r.rank m I3 (at_part 0 (missing (ends_returned calls) (first_finalize calls))))) k.number
+    (subst (λ (o : Option ℕ). Adds z a (IsOfRule r.rank w.number I3 (at_part 0 (missing (ends_returned calls) o)))) k.finalize
+    (subst (λ (b : Bool). Adds z a (IsOfRule r.rank w.number I3 (at_part 0 (missing b w.finalize)))) k.returned adds))) in
+    subst (λ (v : WalkState). RowsAtEnd (rank_by version v.rank) calls a) e (record {
+      rises = rises;
+      exact = λ f. (
+        λ h. elim ((all f).0 h) [ inl there ↦ absurd there | inr is ↦ whole_from r calls f is ],
+        λ is. (all f).1 (inr (whole_by r calls f f.rule refl is.rank_is is.gives)),
+      );
+    })
+
+pub walks_end : (version : ℕ) (w : WalkState) (calls : List Call) (given : List Batch) (batch : Batch) (rows : List Finding) → RowsAtEnd (rank_by version w.rank) calls rows → rows_of batch.entries ≡ rows
+    → batch.rank ≡ (rank_by version w.rank).rank → batch.last ≡ true → Walks version w calls given → GivesAll (rank_by version w.rank) calls (given ++ batch ∷ [])
+walks_end version w calls given batch rows at are rank_is ends walks =
+    let r = rank_by version w.rank in
+    let new : Joins (IsWhole r calls) (rows_of batch.entries) = subst (Joins (IsWhole r calls)) (sym are) (record { once = rises_distinct by_all by_all_total rows at.rises; rows = at.exact }) in
+    let all = joined (IsHere r calls) (IsWhole r calls) (IsLocal r calls) (all_rows given) (rows_of batch.entries) (record { once = walks.once; rows = walks.rows }) new
+    (here_whole r calls) (local_here r calls) (local_whole r calls) (local_cases r calls) in
+    let here : Joins (IsLocal r calls) (all_rows (given ++ batch ∷ [])) = subst (Joins (IsLocal r calls)) (sym (all_more given batch)) all in
+    record { once = here.once; rows = here.rows; middle = given; last = batch; batches_are = refl; go_on = walks.middle; rank_is = rank_is; ends = ends }

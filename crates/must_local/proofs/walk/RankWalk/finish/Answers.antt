@@ -1,0 +1,8 @@
+use Rattle.std.proofs.Common.{refl, ap, ◌∙◌}
+use Rattle.must_local.specs.Walks.{WalkState}
+use Rattle.must_local.proofs.Walked.{walks_end}
+use Rattle.must_local.proofs.walk.RankWalk.finish.Goals as goal
+
+pub returns : goal.returns
+returns c = λ version calls given walks.
+    walks_end version c.args.self calls given _ c.in_ok-rows.rows (c.in_ok-rows.ensures version calls walks.knows) (c.in_ok-entries.ensures ∙ c.as_slice.ensures.items) (ap (λ (w : WalkState). w.rank.rank) c.self.view_is) refl walks

@@ -1,0 +1,62 @@
+-- What the families of rules add at a call, by what the walk keeps.
+use Rattle.std.specs.Prelude.{◌≡◌, ◌⊎◌, ◌↔◌, ℕ, Bool, true, false, List, Option, Some, None, slice_get}
+use Rattle.must_call.specs.declared.class.Class.{Class}
+use Rattle.must_call.specs.declared.class.Class.TheVariants.{Comm, Group, Datatype, Operation, Request}
+use Rattle.must_call.specs.declared.life.Life.{Life}
+use Rattle.must_call.specs.declared.life.Life.TheVariants.{Live}
+use Rattle.must_call.specs.declared.call.Call.{Call}
+use Rattle.must_find.specs.declared.rule.Rule.{Rule}
+use Rattle.must_find.specs.declared.rule.Rule.TheVariants.{I1, I2, A1, A2, L1, L2, L3, L4, L5}
+use Rattle.must_find.specs.declared.finding.Finding.{Finding}
+use Rattle.must_base.specs.Listing.{Has, Rises}
+use Rattle.must_find.specs.Order.{by_all}
+use Rattle.must_rules.specs.Rank.{Rank}
+use Rattle.must_rules.specs.Local.{IsBehind, IsWhole}
+use Rattle.must_rules.specs.Answer.{Answer, at_part}
+use Rattle.must_rules.specs.Counts.{count_below_zero}
+use Rattle.must_rules.specs.Peers.{peer_outside}
+use Rattle.must_rules.specs.Frames.{is_init, init_answer, seeing}
+use Rattle.must_rules.specs.Lives.{open_handles}
+use Rattle.must_rules.specs.Leaks.{leak}
+
+-- the finding stands at this call and rule, and its part's answer is this
+pub record IsOfRule (rank call : ℕ) (rule : Rule) (answers : ℕ → Option Answer) (f : Finding) : Type 0 where
+  pub rank_is : f.rank ≡ rank
+  pub call_is : f.call ≡ call
+  pub rule_is : f.rule ≡ rule
+  pub gives : answers f.part ≡ Some (f.see, f.value)
+
+-- I1 and I2, by the first Init and the first Finalize
+abbrev pub FrameRows : ℕ → ℕ → Option ℕ → Option ℕ → Call → Finding → Type 0
+FrameRows rank k init finalize call f = IsOfRule rank k I1 (at_part 0 (init_answer rank (is_init call) init)) f ⊎ IsOfRule rank k I2 (at_part 0 (seeing rank finalize)) f
+
+-- A1 and A2
+abbrev pub ArgumentRows : ℕ → ℕ → ℕ → Call → Finding → Type 0
+ArgumentRows rank k size call f = IsOfRule rank k A1 (at_part 0 (count_below_zero call)) f ⊎ IsOfRule rank k A2 (at_part 0 (peer_outside size call)) f
+
+-- a handle, where it is live
+abbrev pub open_one : ℕ → Life → Option (ℕ × ℕ)
+open_one number (Live made) = Some (number, made)
+open_one number _ = None
+
+-- the open handles of a class at the first Finalize
+abbrev pub ClassRows : ℕ → ℕ → Class → Rule → List Call → Finding → Type 0
+ClassRows rank k class rule calls f = IsOfRule rank k rule (λ part. leak rank (slice_get (open_handles calls class) part)) f
+
+-- L1 to L5
+abbrev pub LeakRows : ℕ → ℕ → List Call → Finding → Type 0
+LeakRows rank k calls f = ClassRows rank k Datatype L1 calls f ⊎ (ClassRows rank k Comm L2 calls f ⊎ (ClassRows rank k Group L3 calls f ⊎ (ClassRows rank k Operation L4 calls f ⊎ ClassRows rank k Request L5 calls f)))
+
+abbrev pub LeakRowsAt : ℕ → ℕ → Bool → List Call → Finding → Type 0
+LeakRowsAt rank k true calls f = LeakRows rank k calls f
+LeakRowsAt rank k false calls f = ⊥
+
+-- the rows of a call, in order
+pub record RowsAt (r : Rank) (calls : List Call) (call : Call) (rows : List Finding) : Type 0 where
+  pub rises : Rises by_all rows
+  pub exact : (f : Finding) → Has rows f ↔ IsBehind r calls call f
+
+-- the rows at the end of the calls, in order
+pub record RowsAtEnd (r : Rank) (calls : List Call) (rows : List Finding) : Type 0 where
+  pub rises : Rises by_all rows
+  pub exact : (f : Finding) → Has rows f ↔ IsWhole r calls f

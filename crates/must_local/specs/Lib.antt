@@ -1,0 +1,5 @@
+pub mod Entries
+pub mod Distinct
+pub mod DistinctLaws
+pub mod Adding
+pub mod Walks

@@ -1,0 +1,73 @@
+-- What a walk keeps, and the calls and batches that it stands for.
+use Rattle.std.specs.Prelude.{◌≡◌, ◌↔◌, ℕ, ℤ, Bool, true, false, List, [], ◌∷◌, ◌++◌, Option, length}
+use Rattle.std.specs.List.{AllByRecursion, flat_map}
+use Rattle.must_call.specs.declared.call.Call.{Call}
+use Rattle.must_find.specs.declared.finding.Finding.{Finding}
+use Rattle.must_base.specs.Listing.{Has}
+use Rattle.must_rules.specs.Rank.{Rank}
+use Rattle.must_local.specs.Distinct.{AreDistinct}
+use Rattle.must_rules.specs.Frames.{first_init, first_finalize, ends_returned}
+use Rattle.must_rules.specs.Local.{IsHere, IsLocal}
+use Rattle.must_rules.specs.Starts.{Clearness}
+use Rattle.must_handle.specs.declared.slot.Slot.{Slot}
+use Rattle.must_handle.specs.Slots.{Stands}
+use Rattle.must_local.specs.declared.batch.Batch.{Batch}
+use Rattle.must_local.specs.Entries.{rows_of}
+
+-- what a walk is told of its rank: its number, the number of ranks, and the greatest tag
+pub record RankTold : Type 0 where
+  pub rank : ℕ
+  pub size : ℕ
+  pub tag_ub : ℤ
+
+-- what is known of the rank where its stream has this version; no rule of a walk asks for the version
+abbrev pub rank_by : ℕ → RankTold → Rank
+rank_by version told = record { rank = told.rank; size = told.size; version = version; tag_ub = told.tag_ub }
+
+-- the rank, how many calls were stepped, the first Init and Finalize, whether the last call returned, and the handles
+pub record WalkState : Type 0 where
+  pub rank : RankTold
+  pub number : ℕ
+  pub init : Option ℕ
+  pub finalize : Option ℕ
+  pub returned : Bool
+  pub slots : List Slot
+
+-- no rule so far asks which calls are clear, so all are taken to be
+abbrev pub taken_clear : Clearness
+taken_clear earlier call = true
+
+-- the tables tell what these calls did
+pub record Knows (w : WalkState) (calls : List Call) : Type 0 where
+  pub number : w.number ≡ length calls
+  pub init : w.init ≡ first_init calls
+  pub finalize : w.finalize ≡ first_finalize calls
+  pub returned : w.returned ≡ ends_returned calls
+  pub lives : Stands taken_clear w.slots calls
+
+-- the local rows of some batches
+abbrev pub all_rows : List Batch → List Finding
+all_rows batches = flat_map (λ b. rows_of b.entries) batches
+
+-- a batch of a rank behind which others come
+pub record IsMiddle (rank : ℕ) (b : Batch) : Type 0 where
+  pub rank_is : b.rank ≡ rank
+  pub goes_on : b.last ≡ false
+
+-- the walk has taken these calls and given these batches
+pub record Walks (version : ℕ) (w : WalkState) (calls : List Call) (given : List Batch) : Type 0 where
+  pub knows : Knows w calls
+  pub once : AreDistinct (all_rows given)
+  pub rows : (f : Finding) → Has (all_rows given) f ↔ IsHere (rank_by version w.rank) calls f
+  pub middle : AllByRecursion (IsMiddle (rank_by version w.rank).rank) given
+
+-- these batches are all that the calls of a rank give: each local row once, and the last batch alone is the last
+pub record GivesAll (r : Rank) (calls : List Call) (batches : List Batch) : Type 0 where
+  pub once : AreDistinct (all_rows batches)
+  pub rows : (f : Finding) → Has (all_rows batches) f ↔ IsLocal r calls f
+  pub middle : List Batch
+  pub last : Batch
+  pub batches_are : batches ≡ middle ++ last ∷ []
+  pub go_on : AllByRecursion (IsMiddle r.rank) middle
+  pub rank_is : last.rank ≡ r.rank
+  pub ends : last.last ≡ true

@@ -1,0 +1,19 @@
+//! The walk over the calls of one rank, which gives the rank's entries in batches: so far the findings of the rules that look
+//! at one rank alone.
+//!
+//! A call is taken in constant time and in one step more for each request that it completes or starts. The first Finalize
+//! takes five passes over the handles that were made. Memory is in proportion to these, and not to the calls.
+#![tactic(auto)]
+
+mod arguments;
+mod batch;
+mod fault;
+mod leaks;
+mod rows;
+#[cfg(test)]
+mod tests;
+mod walk;
+
+pub use batch::{Batch, Entry, ItemList};
+pub use fault::WalkFault;
+pub use walk::RankWalk;
