@@ -12,7 +12,7 @@ use Rattle.must_call.specs.declared.body.Body.{Body}
 use Rattle.must_call.specs.Values.{Value, Typed}
 use Rattle.must_call.specs.Bodies.{inputs_of}
 use Rattle.must_rules.specs.Facts.{Facts}
-use Rattle.must_rules.specs.Significant.{first_told, comm_of, significant_in}
+use Rattle.must_rules.specs.Significant.{first_told, comm_of, significant_in, is_send, is_receive}
 use Rattle.must_rules.specs.Breaches.{part_in}
 use Rattle.must_rules.specs.Clear.{is_clear}
 
@@ -30,8 +30,8 @@ type_in s _ _ = None
 
 -- the rank that a side goes to or comes from
 abbrev pub peer_in : Side → (f : Field) → Value f → Option ℤ
-peer_in Send (I32 int.Dest) z = Some z
-peer_in Receive (I32 int.Source) z = Some z
+peer_in s (I32 int.Dest) z = if is_send s then Some z else None
+peer_in s (I32 int.Source) z = if is_receive s then Some z else None
 peer_in s _ _ = None
 
 abbrev pub is_sound : Facts → Option ℕ → Bool

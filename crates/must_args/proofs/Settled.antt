@@ -1,0 +1,90 @@
+-- What is asked by the setting of a call is what the definitions ask.
+use Rattle.std.proofs.Common.{◌≡◌, ℕ, ◌+◌, Bool, true, false, ◌||◌, ◌&&◌, cond, ℤ, List, [], ◌∷◌, ◌++◌, Option, Some, None, refl, sym, ap, ◌∙◌, nat_eq}
+use Rattle.std.specs.Prelude.{if◌then◌else◌, is_some}
+use Rattle.std.specs.Option.{option_map}
+use Rattle.must_call.specs.declared.kind.Kind.{Kind}
+use Rattle.must_call.specs.declared.field.Field.{Field}
+use Rattle.must_call.specs.declared.field.Field.TheVariants.{Handle, Buffer, I32, I64, Bit, Order, Items}
+use Rattle.must_call.specs.declared.body.Body.{Body}
+use Rattle.must_call.specs.Values.{Typed}
+use Rattle.must_call.specs.Kinds.{kind_of}
+use Rattle.must_call.specs.Bodies.{inputs_of}
+use Rattle.must_call.specs.Handles.{typed_handles}
+use Rattle.must_rules.specs.Facts.{Facts, Comm, size_of_comm}
+use Rattle.must_rules.specs.Significant.{Seat, side, in_place, comm_of, seat_of, is_significant, significant_in}
+use Rattle.must_rules.specs.Breaches.{Breach, sends, part_of, part_in, asked_from}
+use Rattle.must_rules.specs.ArgumentHandles.{is_of_buffer, wrong_handles}
+use Rattle.must_rules.specs.Clear.{wrong_value, wrong_field, is_clear}
+use Rattle.must_rules.specs.UsableParts.{is_usable_side, is_usable_buffer, usable_among, is_usable, usable_parts}
+use Rattle.must_args.specs.declared.setting.Setting.{Setting}
+use Rattle.must_args.specs.Settings.{told_seat, has_sense, asks, IsSetting, usable_field, usable_from}
+
+abbrev pub asked_with : Facts → List Typed → Kind → Bool → Bool → Option ℕ → ℤ → Seat → List Breach
+asked_with facts ts k place sending n tag_ub seat =
+    asked_from (λ f. is_significant k place seat f) (λ i t. wrong_value tag_ub n (part_of sending (side t.0)) t ++ wrong_handles facts k (is_of_buffer t.0) i (typed_handles t)) 0 ts
+
+pub settled : (facts : Facts) (b : Body) (s : Setting) → IsSetting facts b s
+    → asked_from (has_sense s) (asks facts s) 0 (inputs_of b) ≡ asked_from (significant_in facts b) (wrong_field facts (kind_of b) (option_map size_of_comm (comm_of facts b)) (part_in b)) 0 (inputs_of b)
+settled facts b s is =
+    let ts = inputs_of b in
+    ap (λ k. asked_with facts ts k s.in_place s.sends s.size s.tag_ub (told_seat s.seat)) is.kind_is
+    ∙ ap (λ x. asked_with facts ts (kind_of b) x s.sends s.size s.tag_ub (told_seat s.seat)) is.in_place_is
+    ∙ ap (λ x. asked_with facts ts (kind_of b) (in_place b) x s.size s.tag_ub (told_seat s.seat)) is.sends_is
+    ∙ ap (λ x. asked_with facts ts (kind_of b) (in_place b) (sends ts) x s.tag_ub (told_seat s.seat)) is.size_is
+    ∙ ap (λ x. asked_with facts ts (kind_of b) (in_place b) (sends ts) (option_map size_of_comm (comm_of facts b)) x (told_seat s.seat)) is.tag_ub_is
+    ∙ ap (λ x. asked_with facts ts (kind_of b) (in_place b) (sends ts) (option_map size_of_comm (comm_of facts b)) facts.tag_ub x) is.seat_is
+
+-- ---- usable
+
+significant_is : (facts : Facts) (b : Body) (s : Setting) (f : Field) → IsSetting facts b s → has_sense s f ≡ significant_in facts b f
+significant_is facts b s f is =
+    ap (λ k. is_significant k s.in_place (told_seat s.seat) f) is.kind_is
+    ∙ ap (λ x. is_significant (kind_of b) x (told_seat s.seat) f) is.in_place_is
+    ∙ ap (λ x. is_significant (kind_of b) (in_place b) x f) is.seat_is
+
+field_usable : (facts : Facts) (b : Body) (s : Setting) (f : Field) → IsSetting facts b s → usable_field facts s (inputs_of b) f ≡ is_usable_buffer facts b f
+field_usable facts b s (Buffer side) is = ap (λ x. x && is_usable_side facts (inputs_of b) side) (significant_is facts b s (Buffer side) is)
+field_usable facts b s (Handle r) is = refl
+field_usable facts b s (I32 u) is = refl
+field_usable facts b s (I64 u) is = refl
+field_usable facts b s (Bit u) is = refl
+field_usable facts b s Order is = refl
+field_usable facts b s (Items i) is = refl
+
+pub usable_is : (facts : Facts) (b : Body) (s : Setting) (part : ℕ) (ts : List Typed) → IsSetting facts b s → usable_from facts s (inputs_of b) part ts ≡ usable_among facts b part ts
+usable_is facts b s part [] is = refl
+usable_is facts b s part (t ∷ ts) is =
+    ap (λ x. (nat_eq (part_of x (side t.0)) part && usable_field facts s (inputs_of b) t.0) || usable_from facts s (inputs_of b) part ts) is.sends_is
+    ∙ ap (λ x. (nat_eq (part_in b t.0) part && x) || usable_from facts s (inputs_of b) part ts) (field_usable facts b s t.0 is)
+    ∙ ap (λ x. (nat_eq (part_in b t.0) part && is_usable_buffer facts b t.0) || x) (usable_is facts b s part ts is)
+
+some_size : (o : Option Comm) → is_some (option_map size_of_comm o) ≡ is_some o
+some_size (Some c) = refl
+some_size None = refl
+
+-- a call that is clear, on a communicator that is live and sound
+pub usable_there : (facts : Facts) (b : Body) (s : Setting) → IsSetting facts b s → is_clear facts b ≡ true → is_some s.size ≡ true
+    → (if usable_from facts s (inputs_of b) 0 (inputs_of b) then 1 else 0) + (if usable_from facts s (inputs_of b) 1 (inputs_of b) then 2 else 0) ≡ usable_parts facts b
+usable_there facts b s is clear size =
+    let comm : is_some (comm_of facts b) ≡ true = sym (some_size (comm_of facts b)) ∙ ap is_some (sym is.size_is) ∙ size in
+    let here : (part : ℕ) → usable_from facts s (inputs_of b) part (inputs_of b) ≡ is_usable facts b part = λ part.
+    usable_is facts b s part (inputs_of b) is
+    ∙ sym (ap (λ x. x && is_some (comm_of facts b) && usable_among facts b part (inputs_of b)) clear ∙ ap (λ x. x && usable_among facts b part (inputs_of b)) comm) in
+    ap (λ x. (if x then 1 else 0) + (if usable_from facts s (inputs_of b) 1 (inputs_of b) then 2 else 0)) (here 0)
+    ∙ ap (λ x. (if is_usable facts b 0 then 1 else 0) + (if x then 2 else 0)) (here 1)
+
+no_part : (facts : Facts) (b : Body) → ((part : ℕ) → is_usable facts b part ≡ false) → 0 ≡ usable_parts facts b
+no_part facts b none =
+    sym (ap (λ x. (if x then 1 else 0) + (if is_usable facts b 1 then 2 else 0)) (none 0) ∙ ap (λ x. (if false then 1 else 0) + (if x then 2 else 0)) (none 1))
+
+and-false : (a b c : Bool) → b ≡ false → (a && b && c) ≡ false
+and-false true b c e = ap (λ x. x && c) e
+and-false false b c e = refl
+
+pub usable_nowhere : (facts : Facts) (b : Body) (s : Setting) → IsSetting facts b s → is_clear facts b ≡ false → 0 ≡ usable_parts facts b
+usable_nowhere facts b s is unclear = no_part facts b (λ part. ap (λ x. x && is_some (comm_of facts b) && usable_among facts b part (inputs_of b)) unclear)
+
+pub usable_homeless : (facts : Facts) (b : Body) (s : Setting) → IsSetting facts b s → is_some s.size ≡ false → 0 ≡ usable_parts facts b
+usable_homeless facts b s is size =
+    let comm : is_some (comm_of facts b) ≡ false = sym (some_size (comm_of facts b)) ∙ ap is_some (sym is.size_is) ∙ size in
+    no_part facts b (λ part. and-false (is_clear facts b) (is_some (comm_of facts b)) (usable_among facts b part (inputs_of b)) comm)

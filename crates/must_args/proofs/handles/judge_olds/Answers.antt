@@ -1,0 +1,22 @@
+use Rattle.std.proofs.Common.{List, pos, map, get_or, false, refl, subst}
+use Rattle.std.proofs.lemmas.List.{take_all}
+use Rattle.must_call.specs.declared.items.StructBlock.{StructBlock}
+use Rattle.must_call.specs.Handles.{old_of}
+use Rattle.must_rules.specs.Breaches.{AddsBreaches}
+use Rattle.must_rules.specs.ArgumentHandles.{wrong_handles}
+use Rattle.must_args.proofs.Added.{adds_none}
+use Rattle.must_args.proofs.Steps.{handles_step}
+use Rattle.must_args.proofs.handles.judge_olds.Goals as goal
+
+pub loop-i-init : goal.loop-i-init
+loop-i-init g c = adds_none c.args.at c.args.rows.now
+
+pub loop-i-preserved : goal.loop-i-preserved
+loop-i-preserved g c =
+    let facts = g.V.View.facts c.args.view.now in
+    let none : StructBlock = record { block = pos 0; disp = pos 0; old = 0 } in
+    handles_step old_of facts c.args.kind false c.args.number c.args.blocks.now c.loop-i.i (get_or c.args.blocks.now c.loop-i.i none) none c.args.at c.args.rows.now c.loop-i.rows c.judge_handle.new.rows c.loop-i-test.true refl c.loop-i.invariant c.in_ok-judge_handle.ensures
+
+pub returns : goal.returns
+returns g c =
+    subst (λ (xs : List StructBlock). AddsBreaches c.args.at c.args.rows.now c.loop-i.rows (wrong_handles (g.V.View.facts c.args.view.now) c.args.kind false c.args.number (map old_of xs))) (take_all c.loop-i.i c.args.blocks.now c.loop-i-test.false) c.loop-i.invariant

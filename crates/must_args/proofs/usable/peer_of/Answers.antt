@@ -1,0 +1,14 @@
+use Rattle.std.proofs.Common.{ap, ◌∙◌}
+use Rattle.must_call.specs.Arguments.{seen}
+use Rattle.must_rules.specs.Significant.{or_else, first_told}
+use Rattle.must_rules.specs.UsableParts.{peer_in}
+use Rattle.must_args.proofs.Asking.{all_there}
+use Rattle.must_args.proofs.Steps.{told_step}
+use Rattle.must_args.proofs.usable.peer_of.Goals as goal
+
+pub loop-argument-preserved : goal.loop-argument-preserved
+loop-argument-preserved c =
+    told_step seen c.args.arguments.now c.loop-argument.argument-index c.argument-item.result c.loop-argument-test.true c.argument-item.is (peer_in c.args.side) c.loop-argument.peer c.first_of-peer.result c.loop-argument.invariant (c.first_of-peer.ensures ∙ ap (or_else c.loop-argument.peer) c.peer_told.ensures)
+
+pub returns : goal.returns
+returns c = c.loop-argument.invariant ∙ ap (first_told (peer_in c.args.side)) (all_there seen c.args.arguments.now c.loop-argument.argument-index c.loop-argument-test.false)
