@@ -5,7 +5,7 @@ ghost use Rattle.must_call.specs.declared.field.Field.TheVariants as field;
 ghost use Rattle.must_call.specs.Arguments.{seen};
 ghost use Rattle.must_call.specs.Handles.{request_of, old_of, typed_handles};
 ghost use Rattle.must_rules.specs.Breaches.{AddsBreaches};
-ghost use Rattle.must_rules.specs.ArgumentHandles.{completes, frees_object, is_of_buffer, by_life, wrong_handle, wrong_handles};
+ghost use Rattle.must_rules.specs.ArgumentHandles.{may_complete, frees_object, is_of_buffer, by_life, wrong_handle, wrong_handles};
 ghost use Rattle.must_args.specs.Told.{handle_told};
 
 use crate::adding::add_handle;
@@ -15,8 +15,8 @@ use must_call::{Argument, Class, Handle, Kind, Life, NULL_HANDLE, Place, StructB
 use must_find::{Findings, Rule};
 
 /// Calls that may name the null request.
-fn completes(kind: Kind) -> bool
-    ensures { result ≡ completes kind }
+fn may_complete(kind: Kind) -> bool
+    ensures { result ≡ may_complete kind }
 {
     matches!(
         kind,
@@ -49,7 +49,7 @@ fn judge_life<V: View>(
 {
     match view.life(class, handle) {
         Life::Never => {
-            if completes(kind) && handle == NULL_HANDLE {
+            if may_complete(kind) && handle == NULL_HANDLE {
                 None
             } else {
                 Some((Rule::H1, None))

@@ -9,32 +9,31 @@ use Rattle.must_call.specs.declared.field.Handle.TheVariants.{Datatype}
 use Rattle.must_call.specs.declared.field.Field.{Field}
 use Rattle.must_call.specs.declared.field.Field.TheVariants.{Handle}
 use Rattle.must_call.specs.declared.body.Body.{Body}
-use Rattle.must_call.specs.declared.body.Body.TheVariants.{Persist}
-use Rattle.must_call.specs.declared.persist.Persist.TheVariants.{Start, Startall}
 use Rattle.must_call.specs.declared.life.Life.{Life}
 use Rattle.must_call.specs.declared.life.Life.TheVariants.{Never, Live, Freed, Predefined}
 use Rattle.must_call.specs.Handles.{ClassedHandle}
 use Rattle.must_find.specs.declared.rule.Rule.TheVariants.{H1, H2, H3, H4, H5}
 use Rattle.must_rules.specs.Facts.{Facts}
+use Rattle.must_rules.specs.Making.{started_of}
 use Rattle.must_rules.specs.Breaches.{Breach, breach, breach_with}
 
 -- ---- H1, handle unknown
 
 -- MPI_Wait to MPI_Testsome, which may name the null request
-abbrev pub completes : Kind → Bool
-completes kind.Wait = true
-completes kind.Waitall = true
-completes kind.Waitany = true
-completes kind.Waitsome = true
-completes kind.Test = true
-completes kind.Testall = true
-completes kind.Testany = true
-completes kind.Testsome = true
-completes _ = false
+abbrev pub may_complete : Kind → Bool
+may_complete kind.Wait = true
+may_complete kind.Waitall = true
+may_complete kind.Waitany = true
+may_complete kind.Waitsome = true
+may_complete kind.Test = true
+may_complete kind.Testall = true
+may_complete kind.Testany = true
+may_complete kind.Testsome = true
+may_complete _ = false
 
 -- a handle that no call made
 abbrev pub unknown : Kind → (part h : ℕ) → Life → List Breach
-unknown k part h Never = if completes k && nat_eq h NULL_HANDLE then [] else breach H1 part (pos h) ∷ []
+unknown k part h Never = if may_complete k && nat_eq h NULL_HANDLE then [] else breach H1 part (pos h) ∷ []
 unknown k part h _ = []
 
 -- ---- H2, handle used after free
@@ -94,12 +93,6 @@ abbrev pub active_from : Facts → (here : ℕ) → (clear : Bool) → (before :
 active_from facts here clear before part [] = []
 active_from facts here clear before part (h ∷ hs) = active here (clear && is_member nat_eq before h) part h (facts.start_of h) ++ active_from facts here clear (before ++ h ∷ []) (suc part) hs
 
--- the requests that a call starts
-abbrev pub started : Body → List ℕ
-started (Persist (Start request)) = request ∷ []
-started (Persist (Startall requests)) = requests
-started _ = []
-
 -- here is the number of the call, and clear says whether it is
 abbrev pub active_requests : Facts → (here : ℕ) → (clear : Bool) → Body → List Breach
-active_requests facts here clear b = active_from facts here clear [] 0 (started b)
+active_requests facts here clear b = active_from facts here clear [] 0 (started_of b)
