@@ -1,6 +1,7 @@
 -- A call that makes a handle frees, completes, commits and starts none.
-use Rattle.std.proofs.Common.{◌≡◌, ℕ, Bool, true, false, cond, ◌&&◌, ◌||◌, List, [], Option, Some, None, refl, ap, ◌∙◌}
+use Rattle.std.proofs.Common.{◌≡◌, ℕ, ◌≤◌, arith, Bool, true, false, cond, ◌&&◌, ◌||◌, List, [], Option, Some, None, refl, ap, ◌∙◌}
 use Rattle.std.specs.Prelude.{not, nat_lt}
+use Rattle.std.proofs.lemmas.Bool.{ltb-false}
 use Rattle.must_call.specs.declared.class.Class.{Class}
 use Rattle.must_call.specs.declared.class.Class.TheVariants.{Comm, Group, Datatype, Operation, Request}
 use Rattle.must_call.specs.declared.constants.TheConstants.{FIRST_MADE}
@@ -65,6 +66,26 @@ made_is call h e = at call.returned e
   where
     at : (b : Bool) → cond b (numbered (made_of call.body)) None ≡ Some h → made_of call.body ≡ Some h
     at true f = answered (made_of call.body) h f
+    at false f = none_made h f
+
+high : (o : Option ClassedHandle) (h : ClassedHandle) → numbered o ≡ Some h → 64 ≤ h.1
+high None h e = none_made h e
+high (Some x) h e = at (nat_lt x.1 FIRST_MADE) refl e
+  where
+    same : (a b : ClassedHandle) → Some a ≡ Some b → a.1 ≡ b.1
+    same a b f = let g : a ≡ b = cc in ap (λ (y : ClassedHandle). y.1) g
+
+    at : (b : Bool) → nat_lt x.1 FIRST_MADE ≡ b → cond {A = Option ClassedHandle} b None (Some x) ≡ Some h → 64 ≤ h.1
+    at true t f = none_made h f
+    at false t f = omega (arith, ltb-false x.1 64 t, same x h f)
+
+-- what was made has a number from 64 on
+pub made_high : (call : Call) (h : ClassedHandle) → made_by call ≡ Some h → 64 ≤ h.1
+unfolding made_by
+made_high call h e = at call.returned e
+  where
+    at : (b : Bool) → cond b (numbered (made_of call.body)) None ≡ Some h → 64 ≤ h.1
+    at true f = high (made_of call.body) h f
     at false f = none_made h f
 
 freed_none : (b : Body) (h : ClassedHandle) → made_of b ≡ Some h → freed_of b ≡ None
