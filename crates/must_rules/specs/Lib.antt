@@ -28,6 +28,7 @@ pub mod RunRowLaws
 pub mod Facts
 pub mod Significant
 pub mod Breaches
+pub mod BreachLaws
 pub mod ArgumentRules
 pub mod ArgumentHandles
 pub mod Clear
