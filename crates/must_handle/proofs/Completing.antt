@@ -13,19 +13,12 @@ use Rattle.must_rules.specs.Making.{is_in, same_class, picked}
 use Rattle.must_handle.specs.declared.slot.Slot.{Slot}
 use Rattle.must_handle.specs.Changes.{Changes, completed, complete_if, complete_one, complete_requests, started, start_if, start_one, start_requests}
 
-some_again : (a b : Slot) (o : Option Slot) → o ≡ Some a → a ≡ b → o ≡ Some b
-some_again a b o e f = e ∙ ap Some f
-
 -- one change after another
-pub changes_both : (f g h : ℕ → Slot → Slot) (slots mid new : List Slot) → ((n : ℕ) (slot : Slot) → g n (f n slot) ≡ h n slot) → Changes f slots mid → Changes g mid new → Changes h slots new
+changes_both : (f g h : ℕ → Slot → Slot) (slots mid new : List Slot) → ((n : ℕ) (slot : Slot) → g n (f n slot) ≡ h n slot) → Changes f slots mid → Changes g mid new → Changes h slots new
 changes_both f g h slots mid new same first then = record {
   size = then.size ∙ first.size;
   each = λ i slot e. then.each i (f (64 + i) slot) (first.each i slot e) ∙ ap Some (same (64 + i) slot);
 }
-
--- no change
-pub changes_none : (f : ℕ → Slot → Slot) (slots : List Slot) → ((n : ℕ) (slot : Slot) → slot ≡ f n slot) → Changes f slots slots
-changes_none f slots same = record { size = refl; each = λ i slot e. some_again slot (f (64 + i) slot) (slice_get slots i) e (same (64 + i) slot) }
 
 -- ---- completing
 
@@ -52,27 +45,19 @@ completes_both xs ys k n slot =
     ∙ complete_append (same_class slot.class Request) (is_in xs n) (is_in ys n) k slot.class slot.made slot.freed slot.committed slot.persistent slot.start
     ∙ ap (λ (b : Bool). complete_if (same_class slot.class Request && b) k slot) (sym (list_any-append (λ m. m == n) xs ys))
 
-complete_none : (b : Bool) (k : ℕ) (slot : Slot) → slot ≡ complete_if (b && false) k slot
-complete_none true k slot = refl
-complete_none false k slot = refl
-
 or_false : (b : Bool) → b ≡ b || false
 or_false true = refl
 or_false false = refl
 
 -- one request
-pub completed_one : (x k : ℕ) (slots new : List Slot) → Changes (complete_one x k) slots new → Changes (complete_requests (x ∷ []) k) slots new
+completed_one : (x k : ℕ) (slots new : List Slot) → Changes (complete_one x k) slots new → Changes (complete_requests (x ∷ []) k) slots new
 completed_one x k slots new changes = record {
   size = changes.size;
   each = λ i slot e. changes.each i slot e ∙ ap (λ (b : Bool). Some (complete_if (same_class slot.class Request && b) k slot)) (or_false (x == 64 + i));
 }
 
--- no request yet
-pub completed_none : (k : ℕ) (slots : List Slot) → Changes (complete_requests [] k) slots slots
-completed_none k slots = changes_none (complete_requests [] k) slots (λ n slot. complete_none (same_class slot.class Request) k slot)
-
 -- requests more
-pub completed_both : (xs ys : List ℕ) (k : ℕ) (slots mid new : List Slot) → Changes (complete_requests xs k) slots mid → Changes (complete_requests ys k) mid new → Changes (complete_requests (xs ++ ys) k) slots new
+completed_both : (xs ys : List ℕ) (k : ℕ) (slots mid new : List Slot) → Changes (complete_requests xs k) slots mid → Changes (complete_requests ys k) mid new → Changes (complete_requests (xs ++ ys) k) slots new
 completed_both xs ys k slots mid new first then = changes_both (complete_requests xs k) (complete_requests ys k) (complete_requests (xs ++ ys) k) slots mid new (completes_both xs ys k) first then
 
 pub completed_next : (requests : List ℕ) (j k : ℕ) (slots mid new : List Slot) → j < length requests → Changes (complete_requests (take j requests) k) slots mid → Changes (complete_one (get_or requests j 0) k) mid new
@@ -121,19 +106,11 @@ starts_both xs ys k n slot =
     ∙ start_append (same_class slot.class Request) (is_in xs n) (is_in ys n) k slot.class slot.made slot.freed slot.committed slot.persistent slot.start
     ∙ ap (λ (b : Bool). start_if (same_class slot.class Request && b) k slot) (sym (list_any-append (λ m. m == n) xs ys))
 
-start_none : (b : Bool) (k : ℕ) (slot : Slot) → slot ≡ start_if (b && false) k slot
-start_none true k slot = refl
-start_none false k slot = refl
-
 started_one : (x k : ℕ) (slots new : List Slot) → Changes (start_one x k) slots new → Changes (start_requests (x ∷ []) k) slots new
 started_one x k slots new changes = record {
   size = changes.size;
   each = λ i slot e. changes.each i slot e ∙ ap (λ (b : Bool). Some (start_if (same_class slot.class Request && b) k slot)) (or_false (x == 64 + i));
 }
-
--- no request yet
-pub started_none : (k : ℕ) (slots : List Slot) → Changes (start_requests [] k) slots slots
-started_none k slots = changes_none (start_requests [] k) slots (λ n slot. start_none (same_class slot.class Request) k slot)
 
 pub started_next : (requests : List ℕ) (j k : ℕ) (slots mid new : List Slot) → j < length requests → Changes (start_requests (take j requests) k) slots mid → Changes (start_one (get_or requests j 0) k) mid new
     → Changes (start_requests (take (j + 1) requests) k) slots new

@@ -19,7 +19,7 @@ use Rattle.must_rules.specs.Starts.{Clearness, TellsClear, names_to_start, start
 use Rattle.must_rules.specs.LifeLaws.{next_life, next_kept, life_more, life_first, kept_more, kept_first, kept_same, committed_more, committed_first, made_count_more, made_count_first, made_now}
 use Rattle.must_rules.specs.StartLaws.{next_start, start_more, start_first, start_same, names_told, made_names}
 use Rattle.must_handle.specs.declared.slot.Slot.{Slot}
-use Rattle.must_handle.specs.Slots.{slot_of, life_in, state_in, is_open, kept_slot, kept_in, start_slot, start_in, is_committed, committed_in, Stands}
+use Rattle.must_handle.specs.Slots.{slot_of, life_in, state_in, kept_slot, kept_in, start_slot, start_in, is_committed, committed_in, Stands}
 use Rattle.must_handle.specs.Changes.{Changes, IsNext, next_by, committed_when, start_if, started_slot, free_if, freed_slot, complete_if, completed_slot, passed_slot, fresh}
 
 slot_none : (number : ℕ) → slot_of [] number ≡ None

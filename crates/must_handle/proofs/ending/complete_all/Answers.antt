@@ -1,5 +1,5 @@
 use Rattle.std.proofs.Common.{arith}
-use Rattle.must_handle.proofs.Completing.{completed_none, completed_next}
+use Rattle.must_handle.proofs.Completing.{completed_next}
 use Rattle.must_handle.proofs.ending.complete_all.Goals as goal
 
 pub loop-request-preserved : goal.loop-request-preserved

@@ -1,5 +1,5 @@
 use Rattle.std.proofs.Common.{arith}
-use Rattle.must_handle.proofs.Completing.{started_none, started_next}
+use Rattle.must_handle.proofs.Completing.{started_next}
 use Rattle.must_handle.proofs.ending.start_all.Goals as goal
 
 pub loop-request-preserved : goal.loop-request-preserved
