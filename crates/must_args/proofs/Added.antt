@@ -1,9 +1,9 @@
 -- Breaches that are added one after the other.
-use Rattle.std.proofs.Common.{◌≡◌, ℕ, Bool, true, false, ◌+◌, List, [], ◌∷◌, ◌++◌, Option, Some, None, refl, sym, ap, subst, ◌∙◌, inl, inr}
+use Rattle.std.proofs.Common.{◌≡◌, List, [], ◌∷◌, ◌++◌, refl, ap, subst, ◌∙◌, inl, inr}
 use Rattle.std.specs.Prelude.{◌⊎◌, ◌↔◌}
 use Rattle.must_call.specs.declared.place.Place.{Place}
 use Rattle.must_find.specs.declared.finding.Finding.{Finding}
-use Rattle.must_find.specs.OrderLaws.{SamePlace, finding_same}
+use Rattle.must_find.specs.OrderLaws.{finding_same}
 use Rattle.must_base.specs.Listing.{Has}
 use Rattle.must_rules.specs.Breaches.{Breach, IsBreach, AddsBreaches, see_at}
 use Rattle.must_rules.specs.Clear.{is_nil}
@@ -99,8 +99,3 @@ adds_joined at old rows new bs p joined = record {
     ]),
   );
 }
-
--- where nothing is broken
-pub adds_nothing : (at : Place) (old rows : List Finding) (bs : List Breach) → AddsBreaches at [] rows bs → is_nil rows ≡ true → AddsBreaches at old old bs
-adds_nothing at old [] bs p e = adds_joined at old [] old bs p (λ x. (λ h. inl h, λ s. elim s [ inl h ↦ h | inr n ↦ absurd n ]))
-adds_nothing at old (f ∷ fs) bs p e = let no : false ≡ true = e in cc

@@ -1,8 +1,8 @@
 -- One field, one handle or one request more.
-use Rattle.std.proofs.Common.{◌≡◌, ℕ, suc, ◌+◌, ◌<◌, ◌≤◌, Bool, true, false, ◌||◌, ◌&&◌, not, cond, ℤ, List, [], ◌∷◌, ◌++◌, map, length, take, get_or, Option, Some, None, refl, sym, ap, subst, ◌∙◌, arith, nat_eq, append_assoc, length-append, flat_map}
+use Rattle.std.proofs.Common.{◌≡◌, ℕ, suc, ◌+◌, ◌≤◌, Bool, true, false, ◌||◌, ◌&&◌, List, [], ◌∷◌, ◌++◌, map, length, take, Option, Some, None, refl, sym, ap, ◌∙◌, arith, nat_eq, append_assoc, length-append, flat_map}
 use Rattle.std.specs.Prelude.{if◌then◌else◌}
 use Rattle.std.specs.Set.{is_member}
-use Rattle.std.proofs.lemmas.List.{append-nil, map_more, take_all}
+use Rattle.std.proofs.lemmas.List.{append-nil, take_all}
 use Rattle.must_call.specs.declared.kind.Kind.{Kind}
 use Rattle.must_call.specs.declared.field.Field.{Field}
 use Rattle.must_call.specs.Values.{Value, Typed}
@@ -15,9 +15,6 @@ use Rattle.must_args.specs.declared.setting.Setting.{Setting}
 use Rattle.must_args.specs.Settings.{usable_field, usable_from}
 
 -- ---- a list that is gone over
-
-pub all_more : {A B : Type 0} (f : A → B) (xs : List A) (i : ℕ) (x : A) → i < length xs → x ≡ get_or xs i x → map f (take (i + 1) xs) ≡ map f (take i xs) ++ f x ∷ []
-all_more f xs i x within is = map_more f xs i x within ∙ ap (λ y. map f (take i xs) ++ f y ∷ []) (sym is)
 
 pub all_there : {A B : Type 0} (f : A → B) (xs : List A) (i : ℕ) → length xs ≤ i → map f (take i xs) ≡ map f xs
 all_there f xs i all = ap (map f) (take_all i xs all)

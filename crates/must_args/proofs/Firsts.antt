@@ -1,5 +1,5 @@
 -- The first element that a filter keeps.
-use Rattle.std.proofs.Common.{◌≡◌, ℕ, suc, ◌+◌, ◌<◌, ◌≤◌, Bool, true, false, cond, not, List, [], ◌∷◌, length, Option, Some, None, slice_get, refl, sym, ap, subst, ◌∙◌, nat_eq, eqb-true, le-ltb, arith}
+use Rattle.std.proofs.Common.{◌≡◌, ℕ, suc, ◌+◌, Bool, true, false, cond, not, List, [], ◌∷◌, length, Some, None, slice_get, refl, sym, ap, subst, ◌∙◌, nat_eq, eqb-true, le-ltb, arith}
 use Rattle.std.specs.Prelude.{filter, position, nat_lt}
 use Rattle.std.specs.List.{prefix_len}
 use Rattle.std.specs.Cmp.{nat_eq_equiv}

@@ -1,5 +1,5 @@
 -- What is asked by the setting of a call is what the definitions ask.
-use Rattle.std.proofs.Common.{◌≡◌, ℕ, ◌+◌, Bool, true, false, ◌||◌, ◌&&◌, cond, ℤ, List, [], ◌∷◌, ◌++◌, Option, Some, None, refl, sym, ap, ◌∙◌, nat_eq}
+use Rattle.std.proofs.Common.{◌≡◌, ℕ, ◌+◌, Bool, true, ◌||◌, ◌&&◌, ℤ, List, [], ◌∷◌, ◌++◌, Option, Some, None, refl, sym, ap, ◌∙◌, nat_eq}
 use Rattle.std.specs.Prelude.{if◌then◌else◌, is_some}
 use Rattle.std.specs.Option.{option_map}
 use Rattle.must_call.specs.declared.kind.Kind.{Kind}
@@ -11,7 +11,7 @@ use Rattle.must_call.specs.Kinds.{kind_of}
 use Rattle.must_call.specs.Bodies.{inputs_of}
 use Rattle.must_call.specs.Handles.{typed_handles}
 use Rattle.must_rules.specs.Facts.{Facts, Comm, size_of_comm}
-use Rattle.must_rules.specs.Significant.{Seat, side, in_place, comm_of, seat_of, is_significant, significant_in}
+use Rattle.must_rules.specs.Significant.{Seat, side, in_place, comm_of, is_significant, significant_in}
 use Rattle.must_rules.specs.Breaches.{Breach, sends, part_of, part_in, asked_from}
 use Rattle.must_rules.specs.ArgumentHandles.{is_of_buffer, wrong_handles}
 use Rattle.must_rules.specs.Clear.{wrong_value, wrong_field, is_clear}
@@ -72,19 +72,3 @@ usable_there facts b s is clear size =
     ∙ sym (ap (λ x. x && is_some (comm_of facts b) && usable_among facts b part (inputs_of b)) clear ∙ ap (λ x. x && usable_among facts b part (inputs_of b)) comm) in
     ap (λ x. (if x then 1 else 0) + (if usable_from facts s (inputs_of b) 1 (inputs_of b) then 2 else 0)) (here 0)
     ∙ ap (λ x. (if is_usable facts b 0 then 1 else 0) + (if x then 2 else 0)) (here 1)
-
-no_part : (facts : Facts) (b : Body) → ((part : ℕ) → is_usable facts b part ≡ false) → 0 ≡ usable_parts facts b
-no_part facts b none =
-    sym (ap (λ x. (if x then 1 else 0) + (if is_usable facts b 1 then 2 else 0)) (none 0) ∙ ap (λ x. (if false then 1 else 0) + (if x then 2 else 0)) (none 1))
-
-and-false : (a b c : Bool) → b ≡ false → (a && b && c) ≡ false
-and-false true b c e = ap (λ x. x && c) e
-and-false false b c e = refl
-
-pub usable_nowhere : (facts : Facts) (b : Body) (s : Setting) → IsSetting facts b s → is_clear facts b ≡ false → 0 ≡ usable_parts facts b
-usable_nowhere facts b s is unclear = no_part facts b (λ part. ap (λ x. x && is_some (comm_of facts b) && usable_among facts b part (inputs_of b)) unclear)
-
-pub usable_homeless : (facts : Facts) (b : Body) (s : Setting) → IsSetting facts b s → is_some s.size ≡ false → 0 ≡ usable_parts facts b
-usable_homeless facts b s is size =
-    let comm : is_some (comm_of facts b) ≡ false = sym (some_size (comm_of facts b)) ∙ ap is_some (sym is.size_is) ∙ size in
-    no_part facts b (λ part. and-false (is_clear facts b) (is_some (comm_of facts b)) (usable_among facts b part (inputs_of b)) comm)

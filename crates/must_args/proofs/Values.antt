@@ -1,5 +1,5 @@
 -- What a field breaks, rule by rule.
-use Rattle.std.proofs.Common.{◌≡◌, ℕ, ℤ, List, [], ◌∷◌, ◌++◌, Option, Some, None, refl, sym, ◌∙◌}
+use Rattle.std.proofs.Common.{◌≡◌, ℕ, ℤ, [], ◌++◌, Option, Some, None, refl, sym, ◌∙◌}
 use Rattle.std.proofs.lemmas.List.{append-nil}
 use Rattle.must_call.specs.declared.field.Int.TheVariants as int
 use Rattle.must_call.specs.declared.field.Ints.TheVariants as ints

@@ -1,5 +1,5 @@
 -- What the rules know of a call when they ask its fields: worked out once a call.
-use Rattle.std.specs.Prelude.{◌≡◌, ℕ, ◌++◌, Bool, false, ◌&&◌, ◌||◌, List, [], ◌∷◌, nat_eq, Option, option_map}
+use Rattle.std.specs.Prelude.{◌≡◌, ℕ, ◌++◌, Bool, false, ◌&&◌, ◌||◌, List, [], ◌∷◌, nat_eq, option_map}
 use Rattle.must_call.specs.declared.field.Field.{Field}
 use Rattle.must_call.specs.declared.field.Field.TheVariants.{Buffer}
 use Rattle.must_call.specs.declared.body.Body.{Body}

@@ -1,5 +1,5 @@
 -- What the judges of this crate answer, and the breaches that this tells.
-use Rattle.std.specs.Prelude.{ℕ, ℤ, pos, Bool, List, [], ◌∷◌, Option, Some, None}
+use Rattle.std.specs.Prelude.{ℕ, ℤ, pos, List, [], ◌∷◌, Option, Some, None}
 use Rattle.must_call.specs.declared.field.Int.TheVariants as int
 use Rattle.must_call.specs.declared.field.Ints.TheVariants as ints
 use Rattle.must_call.specs.declared.field.Item.TheVariants as item

@@ -25,3 +25,6 @@ mod view;
 pub use check::check_args;
 pub use usable::Usable;
 pub use view::View;
+
+#[cfg(test)]
+mod tests;

@@ -1,7 +1,7 @@
-use Rattle.std.proofs.Common.{◌≡◌, Bool, List, [], ◌++◌, subst, ◌∙◌}
+use Rattle.std.proofs.Common.{Bool, [], subst, ◌∙◌}
 use Rattle.must_rules.specs.Breaches.{AddsBreaches}
 use Rattle.must_rules.specs.ArgumentHandles.{active_requests}
-use Rattle.must_rules.specs.Clear.{wrong_arguments, is_clear}
+use Rattle.must_rules.specs.Clear.{wrong_arguments}
 use Rattle.must_args.proofs.Added.{adds_both, adds_joined, none_where_clear}
 use Rattle.must_args.proofs.check.check_args.Goals as goal
 

@@ -1,10 +1,6 @@
-use Rattle.std.proofs.Common.{◌≡◌, ℕ, ◌<◌, ◌^◌, List, [], ◌++◌, length, flat_map, sym, ap, subst, ◌∙◌}
-use Rattle.std.specs.Option.{option_map}
+use Rattle.std.proofs.Common.{◌<◌, ◌^◌, List, [], length, flat_map, sym, ap, subst, ◌∙◌}
 use Rattle.must_call.specs.Values.{Typed}
-use Rattle.must_call.specs.Kinds.{kind_of}
-use Rattle.must_call.specs.Bodies.{inputs_of}
 use Rattle.must_call.specs.Handles.{typed_handles}
-use Rattle.must_call.specs.Arguments.{all_seen}
 use Rattle.must_find.specs.declared.finding.Finding.{Finding}
 use Rattle.must_rules.specs.Breaches.{AddsBreaches, asked_from}
 use Rattle.must_rules.specs.ArgumentRules.{wrong_ranks}

@@ -1,4 +1,4 @@
-use Rattle.std.proofs.Common.{ℕ, ◌≤◌, ◌+◌, List, map, length, refl, subst, arith}
+use Rattle.std.proofs.Common.{◌≤◌, ◌+◌, List, map, length, refl, subst, arith}
 use Rattle.must_call.specs.Values.{Typed}
 use Rattle.must_call.specs.Handles.{typed_handles}
 use Rattle.must_call.specs.Arguments.{seen}

@@ -1,4 +1,4 @@
-use Rattle.std.proofs.Common.{ℕ, ◌<◌, ◌^◌, length, subst}
+use Rattle.std.proofs.Common.{◌<◌, ◌^◌, length, subst}
 use Rattle.must_call.specs.declared.argument.Argument.{Argument}
 use Rattle.must_call.specs.Arguments.{seen}
 use Rattle.must_call.specs.Handles.{typed_handles}

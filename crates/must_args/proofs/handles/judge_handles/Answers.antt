@@ -1,4 +1,4 @@
-use Rattle.std.proofs.Common.{ℕ, ◌+◌, ◌<◌, ◌^◌, length, subst}
+use Rattle.std.proofs.Common.{◌+◌, ◌<◌, ◌^◌, length, subst}
 use Rattle.std.proofs.lemmas.List.{append-nil}
 use Rattle.must_call.specs.declared.argument.Argument.{Argument}
 use Rattle.must_call.specs.Arguments.{seen}

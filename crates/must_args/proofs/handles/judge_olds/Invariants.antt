@@ -1,4 +1,4 @@
-use Rattle.std.proofs.Common.{◌≡◌, map, take, false}
+use Rattle.std.proofs.Common.{map, take, false}
 use Rattle.must_call.specs.Handles.{old_of}
 use Rattle.must_rules.specs.Breaches.{AddsBreaches}
 use Rattle.must_rules.specs.ArgumentHandles.{wrong_handles}

@@ -1,4 +1,4 @@
-use Rattle.std.proofs.Common.{◌≡◌, ℕ, Bool, not, List, Option, Some, None, slice_get, sym, ap, ◌∙◌, nat_eq}
+use Rattle.std.proofs.Common.{◌≡◌, ℕ, Bool, not, List, Some, None, slice_get, sym, ap, ◌∙◌, nat_eq}
 use Rattle.std.specs.Prelude.{filter}
 use Rattle.std.specs.Set.{is_member}
 use Rattle.must_args.proofs.Firsts.{first_position, first_nowhere}

@@ -1,4 +1,4 @@
-use Rattle.std.proofs.Common.{List, ap, ◌∙◌, ◌||◌}
+use Rattle.std.proofs.Common.{ap, ◌∙◌, ◌||◌}
 use Rattle.must_call.specs.Arguments.{seen}
 use Rattle.must_rules.specs.Significant.{or_else, first_told, comm_in, root_in, in_place_in, is_send}
 use Rattle.must_rules.specs.Breaches.{sends}

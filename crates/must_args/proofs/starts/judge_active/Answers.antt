@@ -1,4 +1,4 @@
-use Rattle.std.proofs.Common.{ℕ, List, [], get_or, false, subst}
+use Rattle.std.proofs.Common.{ℕ, List, [], false, subst}
 use Rattle.std.proofs.lemmas.List.{take_all}
 use Rattle.must_rules.specs.Breaches.{AddsBreaches}
 use Rattle.must_rules.specs.ArgumentHandles.{active_from}

@@ -1,4 +1,4 @@
-use Rattle.std.proofs.Common.{◌≡◌, take, false, []}
+use Rattle.std.proofs.Common.{take, false, []}
 use Rattle.must_rules.specs.Breaches.{AddsBreaches}
 use Rattle.must_rules.specs.ArgumentHandles.{active_from}
 use Rattle.must_args.proofs.starts.judge_active.Given as goal

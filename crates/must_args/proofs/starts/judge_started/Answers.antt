@@ -1,6 +1,5 @@
-use Rattle.std.proofs.Common.{◌≡◌, ℕ, Bool, List, [], get_or, take, true, ◌||◌, sym, ap, subst, ◌∙◌, nat_eq}
+use Rattle.std.proofs.Common.{ℕ, Bool, List, [], get_or, true, ◌||◌, sym, ap, subst, ◌∙◌, nat_eq}
 use Rattle.std.specs.Ordering.{nat_cmp}
-use Rattle.std.specs.Set.{is_member}
 use Rattle.std.specs.List.{list_any}
 use Rattle.std.specs.BTreeMap.{is_at}
 use Rattle.std.proofs.lemmas.List.{take_all}
