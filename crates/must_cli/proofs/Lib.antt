@@ -1,5 +1,4 @@
 pub mod Put
 pub mod Shown
-pub mod Reading
-pub mod Analysing
+pub mod Binding
 pub mod Promised

@@ -13,9 +13,11 @@ use Rattle.must_cli.specs.declared.status.Status.{Status}
 use Rattle.must_cli.specs.declared.status.Status.TheVariants as status
 use Rattle.must_cli.specs.Command.{Check, command}
 use Rattle.must_base.specs.Views.{SourceView}
-use Rattle.must_cli.specs.Outside.{Output, Outside, told_at, AreTied}
-use Rattle.must_cli.specs.Promises.{World, met, err_of, Promises, Answers, IsSuccess, IsRefusal, is_found, status_for, IsAccepted, IsRefused, IsKnownAccepted, IsKnownRefused, StopsAt, WholeReport, RefusedStream, OutsideFault, WantOfMemory, RefusesLowest, ReportsComplete}
-use Rattle.must_cli.proofs.Analysing.{told_within, told_of, stream_at}
+use Rattle.must_tree.specs.Told.{told_at, AreTied}
+use Rattle.must_tree.specs.ToldLaws.{told_within, told_of, stream_at}
+use Rattle.must_tree.specs.Reading.{IsAccepted, IsRefused, StopsAt}
+use Rattle.must_cli.specs.Outside.{Output, Outside}
+use Rattle.must_cli.specs.Promises.{World, met, err_of, Promises, Answers, IsSuccess, IsRefusal, is_found, status_for, IsKnownAccepted, IsKnownRefused, WholeReport, RefusedStream, OutsideFault, WantOfMemory, RefusesLowest, ReportsComplete}
 
 not_both : (told : List (Option (List ℕ))) (rank : ℕ) (f : StreamFault) → IsAccepted told rank → IsKnownRefused told rank f → ⊥
 not_both told rank f accepted refused =

@@ -2,5 +2,4 @@ pub mod Numbers
 pub mod Command
 pub mod Lines
 pub mod Outside
-pub mod Walk
 pub mod Promises

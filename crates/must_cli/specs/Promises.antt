@@ -1,6 +1,6 @@
 -- The promises of the program: what each answer says of the run, and which answer is forced. What is said of a rank's
 -- bytes holds where they are told.
-use Rattle.std.specs.Prelude.{◌≡◌, ◌≢◌, ◌⊎◌, ◌↔◌, ℕ, ◌<◌, Bool, true, false, IsTrue, List, [], length, map, Option, Some, None, slice_get}
+use Rattle.std.specs.Prelude.{◌≡◌, ◌≢◌, ◌⊎◌, ◌↔◌, ℕ, ◌<◌, Bool, true, false, IsTrue, List, length, Option, Some, None, slice_get}
 use Rattle.must_base.specs.Views.{SourceView, SinkView, PutsAll, PutsFront}
 use Rattle.must_call.specs.declared.call.Call.{Call}
 use Rattle.must_format.specs.declared.fault.StreamFault.{StreamFault}
@@ -9,13 +9,14 @@ use Rattle.must_format.specs.Stream.{Accepted, Refused}
 use Rattle.must_find.specs.declared.finding.Finding.{Finding}
 use Rattle.must_find.specs.Rules.{usual_severities}
 use Rattle.must_find.specs.Report.{shown, report_of}
-use Rattle.must_rules.specs.Run.{Run, Strict}
-use Rattle.must_rules.specs.Rows.{IsRows}
+use Rattle.must_rules.specs.Run.{Run}
 use Rattle.must_rules.specs.Streams.{Records}
 use Rattle.must_cli.specs.declared.status.Status.{Status}
 use Rattle.must_cli.specs.declared.status.Status.TheVariants as status
 use Rattle.must_cli.specs.Command.{Check, command}
-use Rattle.must_cli.specs.Outside.{Output, Outside, outside, told_at, IsUnchanged, HasFailed, HasCut, Puts, ShowsNoRefusal, AreTied}
+use Rattle.must_tree.specs.Told.{told_at, HasFailed, AreTied}
+use Rattle.must_tree.specs.Reading.{AreTold, ReadsRun, Stops}
+use Rattle.must_cli.specs.Outside.{Output, Outside, outside, IsUnchanged, HasCut, Puts}
 use Rattle.must_cli.specs.Lines.{usage_line, fault_line, write_line, memory_line}
 
 -- ---- statuses
@@ -54,56 +55,6 @@ status_for (fault.Malformed at cause) = status.Malformed
 status_for (fault.Bound at limit) = status.Bound
 status_for fault.Read = status.Outside
 status_for fault.NoMemory = status.NoMemory
-
--- ---- the streams of the run
-
--- the stream of a rank is complete
-abbrev pub IsAccepted : List (Option (List ℕ)) → ℕ → Type 0
-IsAccepted told rank = (bytes : List ℕ) → told_at told rank ≡ Some bytes
-    → (calls : List Call) × Accepted rank (length told) bytes calls
-
--- those of all ranks below this one are complete
-abbrev pub AreAccepted : List (Option (List ℕ)) → ℕ → Type 0
-AreAccepted told rank = (lower : ℕ) → lower < rank → IsAccepted told lower
-
--- the stream of a rank is refused, and this is its first bad place
-abbrev pub IsRefused : List (Option (List ℕ)) → ℕ → StreamFault → Type 0
-IsRefused told rank fault =
-    (bytes : List ℕ) → told_at told rank ≡ Some bytes → Refused rank (length told) bytes fault
-
--- the bytes of every file are told: these
-abbrev pub AreTold : List (Option (List ℕ)) → List (List ℕ) → Type 0
-AreTold told streams = told ≡ map Some streams
-
--- ---- reading the streams
-
--- the run that the streams record, and its rows
-pub record RunRows (streams : List (List ℕ)) (rows : List Finding) : Type 0 where
-  pub run : Run
-  pub records : Records streams run
-  pub are_rows : IsRows run Strict rows
-
--- Every stream was read to its end and is complete, and these are the rows of the run.
-pub record ReadsRun (told : List (Option (List ℕ))) (parts : List SourceView) (rows : List Finding) : Type 0 where
-  pub accepted : AreAccepted told (length told)
-  pub read : (rank : ℕ) (bytes : List ℕ) → told_at told rank ≡ Some bytes
-      → (part : SourceView) × (slice_get parts rank ≡ Some part) × (part.left ≡ Some [])
-  pub of_run : (streams : List (List ℕ)) → AreTold told streams → RunRows streams rows
-
--- Why a rank stops a check: its stream is refused at its first bad place, or a read of it failed, and what was taken shows no
--- refusal but that the stream ends too early.
-abbrev pub StopsAt : List (Option (List ℕ)) → List SourceView → ℕ → StreamFault → Type 0
-StopsAt told parts rank (fault.Malformed at cause) = IsRefused told rank (fault.Malformed at cause)
-StopsAt told parts rank (fault.Bound at limit) = IsRefused told rank (fault.Bound at limit)
-StopsAt told parts rank fault.Read = (part : SourceView) × (slice_get parts rank ≡ Some part) × HasFailed part
-    × ((bytes : List ℕ) → told_at told rank ≡ Some bytes → ShowsNoRefusal rank (length told) bytes part.left)
-StopsAt told parts rank fault.NoMemory = ⊥
-
--- A rank stops the check: the streams of all lower ranks are complete.
-pub record Stops (told : List (Option (List ℕ))) (parts : List SourceView) (rank : ℕ) (fault : StreamFault) : Type 0 where
-  pub within : rank < length told
-  pub lower : AreAccepted told rank
-  pub stops : StopsAt told parts rank fault
 
 -- ---- writing the report
 

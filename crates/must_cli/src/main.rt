@@ -9,14 +9,12 @@ ghost use Rattle.std.specs.Prelude.{◌≡◌};
 ghost use Rattle.must_cli.specs.declared.WordsFault.TheVariants.{NoMemory as OutOfMemory};
 
 mod command;
-mod judge;
 mod line;
 mod report;
 mod run;
 mod status;
 #[cfg(test)]
 mod tests;
-mod walk;
 
 use must_base::{FileTrace, NameText, NoMemory, OpenGate, Sink, StreamSink};
 use run::run;

@@ -3,18 +3,19 @@
 ghost use Rattle.std.specs.Prelude.{◌≡◌, ◌≢◌, ◌≤◌, ◌<◌, length, map, Err, IfOk, OnOk};
 ghost use Rattle.std.specs.List.{AllByRecursion};
 ghost use Rattle.must_format.specs.declared.limits.TheConstants.{MOST_RANKS};
-ghost use Rattle.must_cli.specs.Outside.{output, outside, AreTied};
+ghost use Rattle.must_tree.specs.Told.{AreTied};
+ghost use Rattle.must_tree.specs.Reading.{Analyses};
+ghost use Rattle.must_cli.specs.Outside.{output, outside};
 ghost use Rattle.must_cli.specs.Promises.{Promises, Answers, Writes, Cuts, status_for, world};
-ghost use Rattle.must_cli.specs.Walk.{Analyses};
 
 use crate::command::file_words;
 use crate::line::{put_fault, put_memory, put_usage, put_write};
 use crate::report::report_text;
 use crate::status::Status;
-use crate::walk::{RunFault, analyse};
 use must_base::{Gate, NameText, NoMemory, Sink, Source, Trace};
 use must_codec::StreamFault;
 use must_find::{Findings, RuleSet};
+use must_tree::{Plan, RunFault, Sends, analyse_serial};
 use std::alloc::Global;
 
 /// What a source shows is what it has left and how often a read of it failed. The function does nothing.
@@ -34,6 +35,15 @@ fn bind_files<T: Trace>(alloc: Global, files: &[NameText], trace: &mut T) -> Res
     Ok(())
 }
 
+/// The plan where no file of settings says another.
+fn usual_plan() -> Plan {
+    Plan {
+        fan_in: 8,
+        sends: Sends::Strict,
+        rules: RuleSet::usual(),
+    }
+}
+
 /// Binds the files, and reads them one after the other.
 fn read_run<T: Trace>(
     alloc: Global,
@@ -50,7 +60,7 @@ fn read_run<T: Trace>(
         return Err(RunFault::NoMemory);
     }
     let parts = trace.parts();
-    analyse(alloc, parts)
+    analyse_serial(alloc, parts, &usual_plan())
 }
 
 /// Why a report wasn't written.

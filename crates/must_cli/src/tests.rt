@@ -122,22 +122,33 @@ const REDUCE: [u8; 43] = [
     0, 0, 0, 1, // comm
 ];
 
-/// The front of a rank's stream: the header with tags up to 32767, and Init.
-fn front(alloc: Global, rank: u32, size: u32) -> Result<Vec<u8>, Fail> {
+/// The header of a rank's stream, with tags up to 32767.
+fn header(alloc: Global, rank: u32, size: u32) -> Result<Vec<u8>, Fail> {
     let mut bytes = Vec::from_slice(alloc, b"MTRC\x01")?;
     bytes.extend_from_slice(&rank.to_be_bytes())?;
     bytes.extend_from_slice(&size.to_be_bytes())?;
     bytes.extend_from_slice(&[0, 0, 0x7f, 0xff])?;
+    Ok(bytes)
+}
+
+/// The front of a rank's stream: the header, and Init.
+fn front(alloc: Global, rank: u32, size: u32) -> Result<Vec<u8>, Fail> {
+    let mut bytes = header(alloc, rank, size)?;
     bytes.extend_from_slice(&INIT)?;
     Ok(bytes)
+}
+
+/// Adds the end record, behind so many calls.
+fn end(bytes: &mut Vec<u8>, calls: u32) -> Result<(), Fail> {
+    bytes.extend_from_slice(&[0, 0, 0, 0, 0, 4])?;
+    bytes.extend_from_slice(&calls.to_be_bytes())?;
+    Ok(())
 }
 
 /// Adds Finalize and the end record, behind so many calls.
 fn finish(bytes: &mut Vec<u8>, calls: u32) -> Result<(), Fail> {
     bytes.extend_from_slice(&FINALIZE)?;
-    bytes.extend_from_slice(&[0, 0, 0, 0, 0, 4])?;
-    bytes.extend_from_slice(&calls.saturating_add(1).to_be_bytes())?;
-    Ok(())
+    end(bytes, calls.saturating_add(1))
 }
 
 /// The stream of a rank: Init, these records, Finalize and the end record.
@@ -355,8 +366,51 @@ fn reports_of_one_rank(rt: HostRuntime) -> Result<(), Fail> {
     )
 }
 
+/// Checks the one stream with these records and no others.
+fn bare_rank(rt: &impl Abort, alloc: Global, records: &[&[u8]], want: &Answer) -> Result<(), Fail> {
+    let mut bytes = header(alloc, 0, 1)?;
+    for record in records {
+        bytes.extend_from_slice(record)?;
+    }
+    end(&mut bytes, u32::try_from(records.len())?)?;
+    runs(
+        rt,
+        alloc,
+        "check a",
+        one_file(alloc, &whole("a", &bytes))?,
+        want,
+    )
+}
+
 #[test]
-fn kinds_without_a_rule(rt: HostRuntime) -> Result<(), Fail> {
+fn init_and_finalize(rt: HostRuntime) -> Result<(), Fail> {
+    let alloc = rt.alloc();
+    bare_rank(
+        &rt,
+        alloc,
+        &[],
+        &found("rank 0 call 0 part 0: error I3 no Finalize, see -, value 0\nviolations 1\n"),
+    )?;
+    bare_rank(
+        &rt,
+        alloc,
+        &[&FINALIZE, &BARRIER],
+        &found(
+            "rank 0 call 0 part 0: error I1 call before Init or second Init, see -, value 0\nrank 0 call 1 part 0: error I1 call before Init or second Init, see -, value 0\nrank 0 call 1 part 0: error I2 call after Finalize, see 0:0, value 0\nviolations 3\n",
+        ),
+    )?;
+    bare_rank(
+        &rt,
+        alloc,
+        &[&INIT, &INIT, &BARRIER],
+        &found(
+            "rank 0 call 1 part 0: error I1 call before Init or second Init, see 0:0, value 0\nrank 0 call 3 part 0: error I3 no Finalize, see -, value 0\nviolations 2\n",
+        ),
+    )
+}
+
+#[test]
+fn kinds_without_a_rule_of_arguments(rt: HostRuntime) -> Result<(), Fail> {
     let alloc = rt.alloc();
     one_rank(
         &rt,
@@ -370,7 +424,15 @@ fn kinds_without_a_rule(rt: HostRuntime) -> Result<(), Fail> {
             &BARRIER,
             &REDUCE,
         ],
-        &CLEAN,
+        &found(
+            "rank 0 call 8 part 0: warning L1 type not freed, see 0:4, value 65\nrank 0 call 8 part 0: warning L2 communicator not freed, see 0:5, value 66\nviolations 2\n",
+        ),
+    )?;
+    one_rank(
+        &rt,
+        alloc,
+        &[&IRECV],
+        &found("rank 0 call 2 part 0: warning L5 request open, see 0:1, value 64\nviolations 1\n"),
     )?;
     // An index is below the number of requests.
     one_rank(&rt, alloc, &[&IRECV, &waitany(0)], &CLEAN)?;

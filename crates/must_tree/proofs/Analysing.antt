@@ -1,5 +1,5 @@
 -- One turn of the analysis, and its answers.
-use Rattle.std.proofs.Common.{◌≡◌, ℕ, zero, suc, ◌+◌, ◌<◌, ◌≤◌, List, [], ◌∷◌, length, map, get_or, Option, Some, None, Err, refl, sym, ap, subst, ◌∙◌, inl, inr, arith, zero-add}
+use Rattle.std.proofs.Common.{◌≡◌, ℕ, zero, suc, ◌+◌, ◌<◌, ◌≤◌, List, [], ◌∷◌, length, map, get_or, Option, Some, Err, refl, sym, ap, subst, ◌∙◌, inl, inr, arith, zero-add}
 use Rattle.std.proofs.Math.ListN.{set}
 use Rattle.std.specs.Prelude.{slice_get}
 use Rattle.std.specs.Option.{option_map}
@@ -8,39 +8,32 @@ use Rattle.std.proofs.lemmas.Bool.{cases_order}
 use Rattle.std.proofs.lemmas.List.{length-map, length-set, get_or-set_same, get_or-set_other}
 use Rattle.std.proofs.lemmas.Option.{slice_get-map, slice_get-get_or}
 use Rattle.must_base.specs.Causes.{Rose}
+use Rattle.must_base.specs.Listing.{Rises}
+use Rattle.must_base.specs.Views.{SourceView}
+use Rattle.must_call.specs.declared.call.Call.{Call}
 use Rattle.must_format.specs.declared.fault.StreamFault.{StreamFault}
 use Rattle.must_format.specs.declared.fault.StreamFault.TheVariants as fault
 use Rattle.must_format.specs.Stream.{Accepted}
+use Rattle.must_format.specs.StreamLaws.{accepted_is_one}
 use Rattle.must_find.specs.declared.finding.Finding.{Finding}
-use Rattle.must_base.specs.Listing.{Rises}
 use Rattle.must_find.specs.Order.{by_all}
-use Rattle.must_rules.specs.Run.{Strict}
-use Rattle.must_rules.specs.WalkLaws.{at_start, at_end}
-use Rattle.must_rules.specs.StreamRuns.{AreComplete, run_of, next_rank}
-use Rattle.must_base.specs.Views.{SourceView, unread}
-use Rattle.must_cli.specs.Outside.{flat, told_at, IsLeftOf, AreTied, ShowsNoRefusal}
-use Rattle.must_cli.proofs.Reading.{left_unread}
-use Rattle.must_cli.specs.Promises.{AreTold, AreAccepted, ReadsRun, RunRows, StopsAt}
-use Rattle.must_cli.specs.Walk.{ReadsRank, IsFaultOf, HasRowsBelow, Analyses, fault_at}
+use Rattle.must_rules.specs.Run.{size_of}
+use Rattle.must_rules.specs.Walk.{Adds}
+use Rattle.must_rules.specs.Local.{IsLocal}
+use Rattle.must_rules.specs.RunRows.{rank_in}
+use Rattle.must_rules.specs.RunRowLaws.{below_first, below_more, below_all}
+use Rattle.must_rules.specs.Streams.{recorded_of}
+use Rattle.must_rules.specs.StreamRuns.{AreComplete, run_of}
+use Rattle.must_tree.specs.Told.{flat, told_at, IsLeftOf, AreTied, ShowsNoRefusal}
+use Rattle.must_tree.specs.ToldLaws.{told_within, told_of, stream_at}
+use Rattle.must_tree.specs.Reading.{AreTold, AreAccepted, ReadsRun, RunRows, StopsAt, Analyses}
+use Rattle.must_tree.specs.Ranks.{ReadsRank, IsFaultOf, HasRowsBelow, fault_at}
+use Rattle.must_tree.proofs.Reached.{left_unread}
 
 -- ---- the bytes of a rank
 
 pub told_is : {S : Type 0} (left : S → Option (List ℕ)) (ps : List S) (k : ℕ) (d : S) → k < length ps → told_at (map left ps) k ≡ left (get_or ps k d)
 told_is left ps k d within = ap flat (slice_get-map left ps k ∙ ap (option_map left) (slice_get-get_or ps k d within))
-
-none_told : (bytes : List ℕ) → None ≡ Some bytes → ⊥
-none_told bytes e = cc
-
-pub told_within : (told : List (Option (List ℕ))) (k : ℕ) (bytes : List ℕ) → told_at told k ≡ Some bytes → k < length told
-told_within [] k bytes e = absurd (none_told bytes e)
-told_within (o ∷ told) zero bytes e = omega arith
-told_within (o ∷ told) (suc k) bytes e = let h = told_within told k bytes e in omega (arith, h)
-
-pub told_of : (streams : List (List ℕ)) (k : ℕ) (bytes : List ℕ) → slice_get streams k ≡ Some bytes → told_at (map Some streams) k ≡ Some bytes
-told_of streams k bytes e = ap flat (slice_get-map Some streams k ∙ ap (option_map Some) e)
-
-pub stream_at : (streams : List (List ℕ)) (k : ℕ) → k < length streams → (bytes : List ℕ) × (slice_get streams k ≡ Some bytes)
-stream_at streams k within = (get_or streams k [], slice_get-get_or streams k [] within)
 
 -- ---- the parts
 
@@ -55,34 +48,6 @@ parts_shown shows left faults is (p ∷ ps) =
     let first = is p in
     let rest = parts_shown shows left faults is ps in
     cc
-
--- ---- parts that were bound: by what they show, they are unread
-
-first_same : {X : Type 0} (x y : X) (xs ys : List X) → x ∷ xs ≡ y ∷ ys → (x ≡ y) × (xs ≡ ys)
-first_same x y xs ys e = (cc, cc)
-
-nothing_same : {X : Type 0} (x : X) (xs : List X) → x ∷ xs ≡ [] → ⊥
-nothing_same x xs e = cc
-
-nothing_more : {X : Type 0} (x : X) (xs : List X) → [] ≡ x ∷ xs → ⊥
-nothing_more x xs e = cc
-
-pub record Unread {S N : Type 0} (left : S → Option (List ℕ)) (faults : S → ℕ) (told : N → Option (List ℕ)) (ps : List S) (names : List N) : Type 0 where
-  pub bytes : map left ps ≡ map told names
-  pub fresh : AllByRecursion (λ p. faults p ≡ 0) ps
-
-pub bound_unread : {S N : Type 0} (shows : S → SourceView) (left : S → Option (List ℕ)) (faults : S → ℕ) → ((s : S) → shows s ≡ record { left = left s; faults = faults s }) → (told : N → Option (List ℕ))
-    → (ps : List S) (names : List N) → map shows ps ≡ map (λ name. unread (told name)) names → Unread left faults told ps names
-bound_unread shows left faults is told [] [] e = record { bytes = refl; fresh = tt }
-bound_unread shows left faults is told [] (n ∷ names) e = absurd (nothing_more _ _ e)
-bound_unread shows left faults is told (p ∷ ps) [] e = absurd (nothing_same _ _ e)
-bound_unread shows left faults is told (p ∷ ps) (n ∷ names) e =
-    let here = first_same _ _ _ _ e in
-    let seen = sym (is p) ∙ here.0 in
-    let first : left p ≡ told n = ap (λ (v : SourceView). v.left) seen in
-    let rest = bound_unread shows left faults is told ps names here.1 in
-    let others = rest.bytes in
-    record { bytes = cc; fresh = (ap (λ (v : SourceView). v.faults) seen, rest.fresh) }
 
 pick : {S : Type 0} (ps : List S) (k : ℕ) → k < length ps → S
 pick [] k within = absurd (omega (arith, within))
@@ -111,7 +76,7 @@ at_first left faults ps = record {
   accepted = λ q h. absurd (omega (arith, h));
   read = λ q d bytes h e. absurd (omega (arith, h));
   tied = λ q d bytes h e. absurd (omega (arith, h));
-  rows = λ streams told run mode records. at_start run mode;
+  rows = λ streams told run mode records. below_first run mode;
 }
 
 -- what reading a rank promises
@@ -131,8 +96,13 @@ rows_more left first k old new fs more streams within is reads told below run mo
     let s = stream_at streams k (omega (arith, n, within)) in
     let known : left old ≡ Some s.0 = sym is ∙ ap (λ (os : List (Option (List ℕ))). told_at os k) told ∙ told_of streams k s.0 s.1 in
     let r = (reads s.0 known).0 in
+    let n_is : size_of run ≡ length first = records.size ∙ n in
+    let here = records.each k s.0 s.1 in
     let accepted : Accepted k (length streams) s.0 r.calls = subst (λ (m : ℕ). Accepted k m s.0 r.calls) (sym n) r.accepted in
-    next_rank streams run mode k s.0 r.calls fs more records s.1 accepted (subst (λ (m : ℕ). Rattle.must_rules.specs.Walk.Walks m k r.calls fs more) (sym n) r.walks) (below run mode records)
+    let same : r.calls ≡ here.calls = accepted_is_one k (length streams) s.0 r.calls here.calls accepted here.accepted in
+    below_more run mode k (recorded_of s.0 here.calls) fs more here.recorded_is
+    (subst (λ (cs : List Call). Adds fs more (IsLocal (rank_in (size_of run) k (recorded_of s.0 cs)) cs)) same (subst (λ (m : ℕ). Adds fs more (IsLocal (rank_in m k (recorded_of s.0 r.calls)) r.calls)) (sym n_is) r.adds))
+    (below run mode records)
 
 tied_at : {S : Type 0} (left : S → Option (List ℕ)) (first ps : List S) (k q : ℕ) (e d new : S) (bytes : List ℕ) → k < length ps → q ≡ k → get_or ps k d ≡ get_or first k d → k < length first → Ties left (get_or ps k d) new
     → told_at (map left first) q ≡ Some bytes → IsLeftOf bytes (left (get_or (set ps k new) q e))
@@ -185,7 +155,7 @@ whole_run told k fs streams far is accepted below rises =
     record {
       run = r.0;
       records = r.1;
-      are_rows = at_end r.0 Strict k fs (omega (arith, r.1.size, n, far)) rises (below r.0 Strict r.1);
+      are_rows = λ mode. below_all r.0 mode k fs (omega (arith, r.1.size, n, far)) rises (below r.0 mode r.1);
     }
 
 pub at_last : {S : Type 0} (left : S → Option (List ℕ)) (faults : S → ℕ) (first ps : List S) (k : ℕ) (fs : List Finding)

@@ -1,11 +1,12 @@
 use Rattle.std.proofs.Common.{List, map, refl, sym, ap, subst, Err, ◌∙◌}
 use Rattle.std.proofs.Math.ListN.{set}
 use Rattle.must_base.specs.Views.{SourceView}
-use Rattle.must_cli.specs.Promises.{ReadsRun}
-use Rattle.must_cli.specs.Outside.{AreTied}
-use Rattle.must_cli.specs.Walk.{Analyses, fault_at}
-use Rattle.must_cli.proofs.Analysing.{at_first, one_more, at_last, at_fault, tied_at_last, tied_at_fault, parts_shown}
-use Rattle.must_cli.proofs.walk.analyse.Goals as goal
+use Rattle.must_tree.specs.Reading.{ReadsRun}
+use Rattle.must_tree.specs.Told.{AreTied}
+use Rattle.must_tree.specs.Reading.{Analyses}
+use Rattle.must_tree.specs.Ranks.{fault_at}
+use Rattle.must_tree.proofs.Analysing.{at_first, one_more, at_last, at_fault, tied_at_last, tied_at_fault, parts_shown}
+use Rattle.must_tree.proofs.serial.analyse_serial.Goals as goal
 
 pub loop-rank-init : goal.loop-rank-init
 loop-rank-init g c = record { size_is = refl; analysing = rw c.new-findings.ensures (at_first g.S.Source.left g.S.Source.faults c.args.parts.now) }

@@ -1,6 +1,6 @@
 use Rattle.std.proofs.Common.{◌≡◌, length}
-use Rattle.must_cli.proofs.Analysing.{Analysing}
-use Rattle.must_cli.proofs.walk.analyse.Given as goal
+use Rattle.must_tree.proofs.Analysing.{Analysing}
+use Rattle.must_tree.proofs.serial.analyse_serial.Given as goal
 
 abbrev pub invariant-loop-rank : goal.invariant-loop-rank
 invariant-loop-rank g l = record {

@@ -1,0 +1,67 @@
+-- What reading the streams of a run answers: its rows, or the rank that stops it. What is said of a rank's bytes holds where
+-- they are told.
+use Rattle.std.specs.Prelude.{◌≡◌, ℕ, ◌<◌, List, [], length, map, Option, Some, Result, Ok, Err, slice_get}
+use Rattle.must_base.specs.Views.{SourceView}
+use Rattle.must_call.specs.declared.call.Call.{Call}
+use Rattle.must_format.specs.declared.fault.StreamFault.{StreamFault}
+use Rattle.must_format.specs.declared.fault.StreamFault.TheVariants as fault
+use Rattle.must_format.specs.Stream.{Accepted, Refused}
+use Rattle.must_find.specs.declared.finding.Finding.{Finding}
+use Rattle.must_rules.specs.Run.{Run, Mode}
+use Rattle.must_rules.specs.RunRows.{IsRows}
+use Rattle.must_rules.specs.Streams.{Records}
+use Rattle.must_tree.specs.declared.fault.RunFault.{RunFault}
+use Rattle.must_tree.specs.declared.fault.RunFault.TheVariants as run_fault
+use Rattle.must_tree.specs.Told.{told_at, HasFailed, ShowsNoRefusal}
+
+-- the stream of a rank is complete
+abbrev pub IsAccepted : List (Option (List ℕ)) → ℕ → Type 0
+IsAccepted told rank = (bytes : List ℕ) → told_at told rank ≡ Some bytes
+    → (calls : List Call) × Accepted rank (length told) bytes calls
+
+-- those of all ranks below this one are complete
+abbrev pub AreAccepted : List (Option (List ℕ)) → ℕ → Type 0
+AreAccepted told rank = (lower : ℕ) → lower < rank → IsAccepted told lower
+
+-- the stream of a rank is refused, and this is its first bad place
+abbrev pub IsRefused : List (Option (List ℕ)) → ℕ → StreamFault → Type 0
+IsRefused told rank fault =
+    (bytes : List ℕ) → told_at told rank ≡ Some bytes → Refused rank (length told) bytes fault
+
+-- the bytes of every file are told: these
+abbrev pub AreTold : List (Option (List ℕ)) → List (List ℕ) → Type 0
+AreTold told streams = told ≡ map Some streams
+
+-- the run that the streams record, and its rows, however standard sends are taken: no rule so far asks
+pub record RunRows (streams : List (List ℕ)) (rows : List Finding) : Type 0 where
+  pub run : Run
+  pub records : Records streams run
+  pub are_rows : (mode : Mode) → IsRows run mode rows
+
+-- Every stream was read to its end and is complete, and these are the rows of the run.
+pub record ReadsRun (told : List (Option (List ℕ))) (parts : List SourceView) (rows : List Finding) : Type 0 where
+  pub accepted : AreAccepted told (length told)
+  pub read : (rank : ℕ) (bytes : List ℕ) → told_at told rank ≡ Some bytes
+      → (part : SourceView) × (slice_get parts rank ≡ Some part) × (part.left ≡ Some [])
+  pub of_run : (streams : List (List ℕ)) → AreTold told streams → RunRows streams rows
+
+-- Why a rank stops a check: its stream is refused at its first bad place, or a read of it failed, and what was taken shows no
+-- refusal but that the stream ends too early.
+abbrev pub StopsAt : List (Option (List ℕ)) → List SourceView → ℕ → StreamFault → Type 0
+StopsAt told parts rank (fault.Malformed at cause) = IsRefused told rank (fault.Malformed at cause)
+StopsAt told parts rank (fault.Bound at limit) = IsRefused told rank (fault.Bound at limit)
+StopsAt told parts rank fault.Read = (part : SourceView) × (slice_get parts rank ≡ Some part) × HasFailed part
+    × ((bytes : List ℕ) → told_at told rank ≡ Some bytes → ShowsNoRefusal rank (length told) bytes part.left)
+StopsAt told parts rank fault.NoMemory = ⊥
+
+-- A rank stops the check: the streams of all lower ranks are complete.
+pub record Stops (told : List (Option (List ℕ))) (parts : List SourceView) (rank : ℕ) (fault : StreamFault) : Type 0 where
+  pub within : rank < length told
+  pub lower : AreAccepted told rank
+  pub stops : StopsAt told parts rank fault
+
+-- what an analysis of the streams answers
+abbrev pub Analyses : List (Option (List ℕ)) → List SourceView → Result (List Finding) RunFault → Type 0
+Analyses told parts (Ok rows) = ReadsRun told parts rows
+Analyses told parts (Err (run_fault.Stream rank fault)) = Stops told parts rank fault
+Analyses told parts (Err run_fault.NoMemory) = Unit {0}

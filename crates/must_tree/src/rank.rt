@@ -1,0 +1,148 @@
+//! The stream of one rank, and the walk over its calls.
+
+ghost use Rattle.std.specs.Prelude.{◌≡◌, ◌≤◌, ◌<◌, ℕ, ℤ, List, [], ◌∷◌, ◌++◌, Some, Ok, Err, OnOk, IfErr};
+ghost use Rattle.std.specs.Option.{option_map};
+ghost use Rattle.must_base.specs.Causes.{Rose};
+ghost use Rattle.must_call.specs.declared.call.Call.{Call};
+ghost use Rattle.must_format.specs.declared.limits.TheConstants.{MOST_RANKS};
+ghost use Rattle.must_find.specs.declared.finding.Finding.{Finding};
+ghost use Rattle.must_rules.specs.Local.{IsLocal};
+ghost use Rattle.must_rules.specs.Walk.{Adds};
+ghost use Rattle.must_local.specs.Walks.{RankTold, rank_by};
+ghost use Rattle.must_tree.specs.Told.{IsLeftOf};
+ghost use Rattle.must_tree.specs.Ranks.{Gathers, ReadsRank, IsFaultOf};
+ghost use Rattle.must_tree.specs.Beside.{Beside, Walked, AllTaken};
+ghost use Rattle.must_codec.specs.Views.{IsOpen, Leaves};
+ghost use Rattle.must_format.specs.Stream.{whose};
+
+use crate::rows::add_rows;
+use must_base::{NoMemory, Source};
+use must_call::Call;
+use must_codec::StreamReader;
+use must_find::Findings;
+use must_format::{Expect, LEAST_TAG_UB, StreamFault};
+use must_local::RankWalk;
+use std::alloc::Global;
+
+/// Takes the next call of a rank's stream, and adds its rows.
+fn take_call(walk: &mut RankWalk, findings: &mut Findings, call: &Call) -> Result<(), NoMemory>
+    ensures { OnOk result ((told : RankTold) (calls : List Call) (first : List Finding) → Gathers told walk.old calls first findings.old
+        → Gathers told walk.new (calls ++ call.now ∷ []) first findings.new) }
+{
+    // A reader judges the numbers of handles, and gives at most 8,388,608 calls; where its source tells no bytes, no clause says so.
+    if !walk.may_step(call) {
+        return Err(NoMemory);
+    }
+    match walk.step(call) {
+        Ok(batch) => {
+            add_rows(findings, batch.entries.items())?;
+            Ok(())
+        }
+        // No call reaches a limit of a walk so far.
+        Err(_) => Err(NoMemory),
+    }
+}
+
+/// Ends the walk over a rank's calls, and adds the rows that stand at their end.
+fn end_walk(walk: RankWalk, findings: &mut Findings) -> Result<(), NoMemory>
+    ensures { OnOk result ((told : RankTold) (version : ℕ) (calls : List Call) (first : List Finding) → Gathers told walk calls first findings.old
+        → Adds first findings.new (IsLocal (rank_by version told) calls)) }
+{
+    let batch = walk.finish()?;
+    add_rows(findings, batch.entries.items())?;
+    Ok(())
+}
+
+/// The greatest tag by the header. A reader that gave a call or the end has accepted a header.
+fn greatest_tag(reader: &StreamReader) -> i32
+    ensures { (tag : ℤ) → option_map (λ h. h.tag_ub) reader.now.header ≡ Some tag → result ≡ tag }
+{
+    match reader.tag_ub() {
+        Some(tag) => tag,
+        None => LEAST_TAG_UB,
+    }
+}
+
+/// Reads the calls of a stream up to its end, and takes each into the walk.
+fn read_calls<S: Source>(
+    alloc: Global,
+    expect: Expect,
+    src: &mut S,
+    reader: &mut StreamReader,
+    walk: &mut RankWalk,
+    findings: &mut Findings,
+) -> Result<(), StreamFault>
+    requires open { IsOpen reader.old.phase }
+    requires whose { reader.old.expect ≡ whose expect.rank expect.size }
+    ensures done { OnOk result ((bytes : List ℕ) (first : List Finding) → Beside expect.rank expect.size bytes (S.left src.old) reader.old walk.old first findings.old
+        → AllTaken expect.rank expect.size bytes (S.left src.new) walk.new first findings.new) }
+    ensures refused { IfErr result (λ fault. (bytes : List ℕ) (first : List Finding) → Beside expect.rank expect.size bytes (S.left src.old) reader.old walk.old first findings.old
+        → IsFaultOf expect.rank expect.size bytes (S.left src.new) fault) }
+    ensures tied { (bytes : List ℕ) (first : List Finding) → Beside expect.rank expect.size bytes (S.left src.old) reader.old walk.old first findings.old
+        → IsLeftOf bytes (S.left src.new) }
+    ensures read { result ≡ Err StreamFault.Read → Rose (S.faults src.old) (S.faults src.new) }
+{
+    for _ in 0..u32::MAX {
+        let next = reader.next(alloc, src)?;
+        match next {
+            None => return Ok(()),
+            Some(call) => take_call(walk, findings, &call)?,
+        }
+    }
+    // A stream has at most 8,388,608 calls.
+    Err(StreamFault::NoMemory)
+}
+
+/// Takes what the reader gave first into the walk, and then all other calls of the stream.
+fn walk_stream<S: Source>(
+    alloc: Global,
+    expect: Expect,
+    src: &mut S,
+    reader: &mut StreamReader,
+    first_call: Option<Call>,
+    walk: &mut RankWalk,
+    findings: &mut Findings,
+) -> Result<(), StreamFault>
+    requires leaves { Leaves reader.old.phase (Ok first_call) }
+    requires whose { reader.old.expect ≡ whose expect.rank expect.size }
+    ensures done { OnOk result ((bytes : List ℕ) (first : List Finding) → Walked expect.rank expect.size bytes (S.left src.old) reader.old first_call walk.old first findings.old
+        → AllTaken expect.rank expect.size bytes (S.left src.new) walk.new first findings.new) }
+    ensures refused { IfErr result (λ fault. (bytes : List ℕ) (first : List Finding) → Walked expect.rank expect.size bytes (S.left src.old) reader.old first_call walk.old first findings.old
+        → IsFaultOf expect.rank expect.size bytes (S.left src.new) fault) }
+    ensures tied { (bytes : List ℕ) (first : List Finding) → Walked expect.rank expect.size bytes (S.left src.old) reader.old first_call walk.old first findings.old
+        → IsLeftOf bytes (S.left src.new) }
+    ensures read { result ≡ Err StreamFault.Read → Rose (S.faults src.old) (S.faults src.new) }
+{
+    match first_call {
+        None => Ok(()),
+        Some(call) => {
+            take_call(walk, findings, &call)?;
+            read_calls(alloc, expect, src, reader, walk, findings)
+        }
+    }
+}
+
+/// Reads the stream of a rank to its end, and adds the rows of its calls.
+pub fn read_rank<S: Source>(
+    alloc: Global,
+    expect: Expect,
+    src: &mut S,
+    findings: &mut Findings,
+) -> Result<(), StreamFault>
+    requires size { (1 ≤ expect.size) × (expect.size ≤ MOST_RANKS) }
+    requires rank { expect.rank < expect.size }
+    ensures done { OnOk result ((bytes : List ℕ) → S.left src.old ≡ Some bytes
+        → ReadsRank expect.rank expect.size bytes findings.old findings.new × (S.left src.new ≡ Some [])) }
+    ensures refused { IfErr result (λ fault. (bytes : List ℕ) → S.left src.old ≡ Some bytes
+        → IsFaultOf expect.rank expect.size bytes (S.left src.new) fault) }
+    ensures tied { (bytes : List ℕ) → S.left src.old ≡ Some bytes → IsLeftOf bytes (S.left src.new) }
+    ensures read { result ≡ Err StreamFault.Read → Rose (S.faults src.old) (S.faults src.new) }
+{
+    let mut reader = StreamReader::new(alloc, expect)?;
+    let next = reader.next(alloc, src)?;
+    let tag_ub = greatest_tag(&reader);
+    let mut walk = RankWalk::new(alloc, expect.rank, expect.size, tag_ub)?;
+    walk_stream(alloc, expect, src, &mut reader, next, &mut walk, findings)?;
+    end_walk(walk, findings)?;
+    Ok(())
+}

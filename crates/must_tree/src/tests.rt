@@ -1,0 +1,89 @@
+//! Runs of two ranks, with the rows that docs/RULES.md gives them.
+
+ghost use Rattle.std.specs.Prelude.{◌≡◌, IfOk};
+
+use crate::{Plan, RunFault, Sends, analyse_serial};
+use must_base::MemSource;
+use must_call::Place;
+use must_find::{Finding, Rule, RuleSet};
+use must_format::{Cause, StreamFault};
+use std::alloc::Global;
+use std::test::Fail;
+
+/// Rank 0 of 2: Init, TypeContiguous(2, INT; type 64), Finalize.
+const LEAK: [u8; 57] = [
+    77, 84, 82, 67, 1, 0, 0, 0, 0, 0, 0, 0, 2, 0, 0, 0x7f, 0xff, // header
+    1, 0, 0, 0, 0, 0, // Init
+    26, 0, 0, 0, 0, 12, 0, 0, 0, 2, 0, 0, 0, 7, 0, 0, 0, 64, // TypeContiguous
+    2, 0, 0, 0, 0, 0, // Finalize
+    0, 0, 0, 0, 0, 4, 0, 0, 0, 3, // end
+];
+
+/// Rank 1 of 2: Init alone.
+const NO_FINALIZE: [u8; 33] = [
+    77, 84, 82, 67, 1, 0, 0, 0, 1, 0, 0, 0, 2, 0, 0, 0x7f, 0xff, // header
+    1, 0, 0, 0, 0, 0, // Init
+    0, 0, 0, 0, 0, 4, 0, 0, 0, 1, // end
+];
+
+fn source(alloc: Global, bytes: &[u8]) -> Result<MemSource, Fail>
+    ensures { IfOk result (λ source. source.faults ≡ 0) }
+{
+    Ok(MemSource::new(bytes.to_vec(alloc)?, 3, Vec::new(alloc)))
+}
+
+fn plan() -> Plan {
+    Plan {
+        fan_in: 2,
+        sends: Sends::Strict,
+        rules: RuleSet::usual(),
+    }
+}
+
+/// A type that is open at Finalize, and a Finalize that isn't there.
+#[test]
+fn a_leak_and_no_finalize(rt: HostRuntime) -> Result<(), Fail> {
+    let alloc = rt.alloc();
+    let mut parts = [source(alloc, &LEAK)?, source(alloc, &NO_FINALIZE)?];
+    match analyse_serial(alloc, &mut parts, &plan()) {
+        Err(_) => assert!(&rt; false),
+        Ok(findings) => {
+            assert_eq!(&rt; findings.len(), 2);
+            let leak = Finding {
+                rank: 0,
+                call: 2,
+                rule: Rule::L1,
+                part: 0,
+                see: Some(Place { rank: 0, call: 1 }),
+                value: 64,
+            };
+            let missing = Finding {
+                rank: 1,
+                call: 1,
+                rule: Rule::I3,
+                part: 0,
+                see: None,
+                value: 0,
+            };
+            assert_eq!(&rt; findings.get(0).copied(), Some(leak));
+            assert_eq!(&rt; findings.get(1).copied(), Some(missing));
+        }
+    }
+    Ok(())
+}
+
+/// The lowest stream that isn't complete stops the run.
+#[test]
+fn a_refused_stream(rt: HostRuntime) -> Result<(), Fail> {
+    let alloc = rt.alloc();
+    let mut parts = [source(alloc, &LEAK)?, source(alloc, &[])?];
+    let fault = StreamFault::Malformed {
+        at: 0,
+        cause: Cause::Truncated,
+    };
+    match analyse_serial(alloc, &mut parts, &plan()) {
+        Ok(_) => assert!(&rt; false),
+        Err(e) => assert_eq!(&rt; e, RunFault::Stream { rank: 1, fault }),
+    }
+    Ok(())
+}
