@@ -93,7 +93,3 @@ from_insert (y ∷ ys) (suc i) f x (inr h) = elim (from_insert ys i f x h) [ inl
 
 pub has_insert : {X : Type 0} (xs : List X) (i : ℕ) (f x : X) → Has (insert xs i f) x ↔ ((x ≡ f) ⊎ Has xs x)
 has_insert xs i f x = (from_insert xs i f x, to_insert xs i f x)
-
--- what is there need not go in
-pub has_again : {X : Type 0} (xs : List X) (f x : X) → Has xs f → Has xs x ↔ ((x ≡ f) ⊎ Has xs x)
-has_again xs f x h = (λ k. inr k, λ k. elim k [ inl e ↦ subst (Has xs) (sym e) h | inr w ↦ w ])

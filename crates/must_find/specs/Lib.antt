@@ -3,5 +3,7 @@ pub mod RuleSet
 pub mod Order
 pub mod Merged
 pub mod Report
+pub mod Adds
+pub mod Rearranged
 pub mod RuleLaws
 pub mod OrderLaws

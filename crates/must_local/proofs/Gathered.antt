@@ -11,8 +11,8 @@ use Rattle.must_call.specs.declared.life.Life.TheVariants.{Never, Live, Freed, P
 use Rattle.must_call.specs.declared.call.Call.{Call}
 use Rattle.must_find.specs.declared.finding.Finding.{Finding}
 use Rattle.must_find.specs.declared.rule.Rule.{Rule}
-use Rattle.must_rules.specs.Answer.{Answer}
-use Rattle.must_rules.specs.Walk.{Adds, IsAnswer}
+use Rattle.must_rules.specs.Answer.{Answer, IsAnswer}
+use Rattle.must_find.specs.Adds.{Adds}
 use Rattle.must_rules.specs.Lives.{life, with_live, live_among, made_count, open_handles}
 use Rattle.must_rules.specs.LiveLaws.{live_more, live_count, live_now}
 use Rattle.must_rules.specs.Leaks.{leak}
@@ -44,12 +44,6 @@ adds_both P Q R a b c first then p q r = λ f. (
     | inl old ↦ (then f).1 (inl ((first f).1 (inl old)))
     | inr x ↦ elim (r f x) [ inl y ↦ (then f).1 (inl ((first f).1 (inr y))) | inr z ↦ (then f).1 (inr z) ]
   ],
-)
-
-pub adds_same : (P Q : Finding → Type 0) (a b : List Finding) → Adds a b P → ((f : Finding) → P f → Q f) → ((f : Finding) → Q f → P f) → Adds a b Q
-adds_same P Q a b adds p q = λ f. (
-  λ h. elim ((adds f).0 h) [ inl old ↦ inl old | inr x ↦ inr (p f x) ],
-  λ h. elim h [ inl old ↦ (adds f).1 (inl old) | inr x ↦ (adds f).1 (inr (q f x)) ],
 )
 
 pub adds_then : (P Q : Finding → Type 0) (a b c : List Finding) → Adds a b P → Adds b c Q → Adds a c (λ f. P f ⊎ Q f)
@@ -87,12 +81,6 @@ with_one number Predefined = refl
 pub record OpenSoFar (rank k : ℕ) (rule : Rule) (calls : List Call) (class : Class) (count part : ℕ) (old new : List Finding) : Type 0 where
   pub part_is : part ≡ length (live_among calls class count 64)
   pub adds : Adds old new (IsOfRule rank k rule (λ p. leak rank (slice_get (live_among calls class count 64) p)))
-
-pub open_first : (rank k : ℕ) (rule : Rule) (calls : List Call) (class : Class) (fs : List Finding) → OpenSoFar rank k rule calls class 0 0 fs fs
-open_first rank k rule calls class fs = record {
-  part_is = refl;
-  adds = adds_nothing (IsOfRule rank k rule (λ p. leak rank (slice_get [] p))) fs (λ f is. leak_none rank (f.see, f.value) is.gives);
-}
 
 handles_more : (rank k : ℕ) (rule : Rule) (xs : List (ℕ × ℕ)) (o : Option (ℕ × ℕ)) (old mid new : List Finding) → Adds old mid (IsOfRule rank k rule (λ p. leak rank (slice_get xs p)))
     → Adds mid new (IsAnswer rank k rule (length xs) (leak rank o)) → Adds old new (IsOfRule rank k rule (λ p. leak rank (slice_get (xs ++ option_to_list o) p)))

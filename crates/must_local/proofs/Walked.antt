@@ -26,7 +26,7 @@ use Rattle.must_rules.specs.Local.{finding_behind, finding_whole, IsBehind, IsHe
 use Rattle.must_rules.specs.LocalLaws.{here_none, here_more, here_again, here_last, here_within, here_whole, local_here, local_whole, local_cases}
 use Rattle.must_local.specs.Distinct.{AreDistinct}
 use Rattle.must_local.specs.DistinctLaws.{has_append, has_front, has_behind, distinct_append, rises_distinct}
-use Rattle.must_rules.specs.Walk.{Adds}
+use Rattle.must_find.specs.Adds.{Adds}
 use Rattle.must_rules.specs.Starts.{TellsClear}
 use Rattle.must_handle.specs.Slots.{Stands}
 use Rattle.must_local.specs.declared.batch.Batch.{Batch}

@@ -3,7 +3,7 @@
 ghost use Rattle.std.specs.Prelude.{◌≡◌, OnOk};
 ghost use Rattle.must_rules.specs.Counts.{count_of, count_below_zero};
 ghost use Rattle.must_rules.specs.Peers.{members, is_position, is_null, is_null_or_any, outside, peer_outside};
-ghost use Rattle.must_rules.specs.Walk.{Adds};
+ghost use Rattle.must_find.specs.Adds.{Adds};
 ghost use Rattle.must_local.specs.Adding.{ArgumentRows};
 
 use crate::rows::{Answer, add_single};

@@ -5,7 +5,8 @@ ghost use Rattle.must_call.specs.declared.call.Call.{Call};
 ghost use Rattle.must_rules.specs.LiveLaws.{live_now};
 ghost use Rattle.must_rules.specs.Leaks.{leak};
 ghost use Rattle.must_rules.specs.Starts.{Clearness};
-ghost use Rattle.must_rules.specs.Walk.{Adds, IsAnswer};
+ghost use Rattle.must_find.specs.Adds.{Adds};
+ghost use Rattle.must_rules.specs.Answer.{IsAnswer};
 ghost use Rattle.must_handle.specs.Slots.{Stands};
 ghost use Rattle.must_local.specs.Adding.{ClassRows, LeakRows, LeakRowsAt, open_one};
 

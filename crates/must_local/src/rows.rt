@@ -2,9 +2,9 @@
 
 ghost use Rattle.std.specs.Prelude.{◌≡◌, OnOk};
 ghost use Rattle.must_find.specs.declared.rule.Rule.TheVariants.{I3};
-ghost use Rattle.must_rules.specs.Answer.{at_part};
+ghost use Rattle.must_rules.specs.Answer.{IsAnswer, at_part};
 ghost use Rattle.must_rules.specs.Frames.{is_init, is_finalize, init_answer, seeing, missing};
-ghost use Rattle.must_rules.specs.Walk.{Adds, IsAnswer};
+ghost use Rattle.must_find.specs.Adds.{Adds};
 ghost use Rattle.must_local.specs.Adding.{IsOfRule, FrameRows};
 
 use must_base::NoMemory;

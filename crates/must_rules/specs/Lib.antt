@@ -3,9 +3,6 @@ pub mod Streams
 pub mod Answer
 pub mod Counts
 pub mod Peers
-pub mod Rows
-pub mod Walk
-pub mod WalkLaws
 pub mod StreamRuns
 pub mod Search
 pub mod SearchLaws

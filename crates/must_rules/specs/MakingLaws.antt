@@ -29,28 +29,12 @@ same_class_is Operation Operation e = refl
 same_class_is Request Request e = refl
 same_class_is _ _ e = let no : false ≡ true = e in absurd cc
 
-pub same_class_self : (c : Class) → same_class c c ≡ true
-same_class_self Comm = refl
-same_class_self Group = refl
-same_class_self Datatype = refl
-same_class_self Operation = refl
-same_class_self Request = refl
-
 none_made : (h : ClassedHandle) {P : Type 0} → None ≡ Some h → P
 none_made h e = absurd cc
 
 and_false : (b : Bool) → b && false ≡ false
 and_false true = refl
 and_false false = refl
-
--- a call that makes a handle returned, and answered it
-made_returned : (call : Call) (h : ClassedHandle) → made_by call ≡ Some h → call.returned ≡ true
-unfolding made_by
-made_returned call h e = at call.returned e
-  where
-    at : (b : Bool) → cond b (numbered (made_of call.body)) None ≡ Some h → b ≡ true
-    at true f = refl
-    at false f = none_made h f
 
 answered : (o : Option ClassedHandle) (h : ClassedHandle) → numbered o ≡ Some h → o ≡ Some h
 answered None h e = none_made h e

@@ -15,7 +15,7 @@ use Rattle.must_base.specs.ListingLaws.{irreflexive, rises_nil, rises_cons, rise
 use Rattle.must_rules.specs.Run.{Run, Mode, Recorded, size_of}
 use Rattle.must_rules.specs.Answer.{Answer}
 use Rattle.must_rules.specs.Local.{IsLocal}
-use Rattle.must_rules.specs.Walk.{Adds}
+use Rattle.must_find.specs.Adds.{Adds}
 use Rattle.must_rules.specs.RunRows.{rank_in, finding_in, finding_at, IsFinding, IsRows, HasRanksBelow}
 
 no_answer : (a : Answer) {P : Type 0} → None ≡ Some a → P

@@ -18,7 +18,7 @@ use Rattle.must_format.specs.StreamLaws.{accepted_is_one}
 use Rattle.must_find.specs.declared.finding.Finding.{Finding}
 use Rattle.must_find.specs.Order.{by_all}
 use Rattle.must_rules.specs.Run.{size_of}
-use Rattle.must_rules.specs.Walk.{Adds}
+use Rattle.must_find.specs.Adds.{Adds}
 use Rattle.must_rules.specs.Local.{IsLocal}
 use Rattle.must_rules.specs.RunRows.{rank_in}
 use Rattle.must_rules.specs.RunRowLaws.{below_first, below_more, below_all}

@@ -5,7 +5,7 @@ use Rattle.must_base.specs.Listing.{Has}
 use Rattle.must_call.specs.declared.call.Call.{Call}
 use Rattle.must_find.specs.declared.finding.Finding.{Finding}
 use Rattle.must_rules.specs.Local.{IsLocal}
-use Rattle.must_rules.specs.Walk.{Adds}
+use Rattle.must_find.specs.Adds.{Adds}
 use Rattle.must_local.specs.declared.batch.Batch.{Batch}
 use Rattle.must_local.specs.declared.batch.Entry.{Entry}
 use Rattle.must_local.specs.declared.batch.Entry.TheVariants.{Row}

@@ -13,7 +13,7 @@ use Rattle.must_format.specs.StreamLaws.{accepted_or_refused, refused_is_one}
 use Rattle.must_codec.specs.Reader.{Phase, ReaderState, Stands, StandsFor, ShowsNone, Gave, Fresh, Before, Ended, Failed}
 use Rattle.must_codec.specs.Views.{IsBefore, IsOpen, Leaves}
 use Rattle.must_find.specs.declared.finding.Finding.{Finding}
-use Rattle.must_rules.specs.Walk.{Adds}
+use Rattle.must_find.specs.Adds.{Adds}
 use Rattle.must_rules.specs.Local.{IsLocal}
 use Rattle.must_local.specs.Walks.{RankTold, rank_by, WalkState, Walks}
 use Rattle.must_tree.specs.Told.{IsLeftOf, IsTooShort}

@@ -8,7 +8,7 @@ use Rattle.must_format.specs.Stream.{Accepted, Refused}
 use Rattle.must_find.specs.declared.finding.Finding.{Finding}
 use Rattle.must_rules.specs.Run.{Run, Mode}
 use Rattle.must_rules.specs.Streams.{Records, recorded_of}
-use Rattle.must_rules.specs.Walk.{Adds}
+use Rattle.must_find.specs.Adds.{Adds}
 use Rattle.must_rules.specs.Local.{IsLocal}
 use Rattle.must_rules.specs.RunRows.{rank_in, HasRanksBelow}
 use Rattle.must_local.specs.declared.batch.Batch.{Batch}

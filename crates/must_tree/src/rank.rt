@@ -7,7 +7,7 @@ ghost use Rattle.must_call.specs.declared.call.Call.{Call};
 ghost use Rattle.must_format.specs.declared.limits.TheConstants.{MOST_RANKS};
 ghost use Rattle.must_find.specs.declared.finding.Finding.{Finding};
 ghost use Rattle.must_rules.specs.Local.{IsLocal};
-ghost use Rattle.must_rules.specs.Walk.{Adds};
+ghost use Rattle.must_find.specs.Adds.{Adds};
 ghost use Rattle.must_local.specs.Walks.{RankTold, rank_by};
 ghost use Rattle.must_tree.specs.Told.{IsLeftOf};
 ghost use Rattle.must_tree.specs.Ranks.{Gathers, ReadsRank, IsFaultOf};

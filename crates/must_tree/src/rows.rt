@@ -2,7 +2,7 @@
 
 ghost use Rattle.std.specs.Prelude.{◌∷◌, [], OnOk};
 ghost use Rattle.must_base.specs.Listing.{Has};
-ghost use Rattle.must_rules.specs.Walk.{Adds};
+ghost use Rattle.must_find.specs.Adds.{Adds};
 ghost use Rattle.must_local.specs.Entries.{rows_of};
 
 use must_base::NoMemory;

@@ -1,5 +1,5 @@
 use Rattle.std.proofs.Common.{Bool, sym, subst}
-use Rattle.must_rules.specs.Walk.{Adds}
+use Rattle.must_find.specs.Adds.{Adds}
 use Rattle.must_local.specs.Adding.{LeakRowsAt}
 use Rattle.must_local.proofs.leaks.add_leaks_at.Goals as goal
 

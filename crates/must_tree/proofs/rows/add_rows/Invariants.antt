@@ -1,6 +1,6 @@
 use Rattle.std.proofs.Common.{take}
 use Rattle.must_base.specs.Listing.{Has}
-use Rattle.must_rules.specs.Walk.{Adds}
+use Rattle.must_find.specs.Adds.{Adds}
 use Rattle.must_local.specs.Entries.{rows_of}
 use Rattle.must_tree.proofs.rows.add_rows.Given as goal
 
