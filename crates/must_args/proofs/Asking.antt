@@ -10,7 +10,7 @@ use Rattle.must_call.specs.Handles.{ClassedHandle, typed_handles}
 use Rattle.must_rules.specs.Facts.{Facts}
 use Rattle.must_rules.specs.Significant.{or_else, first_told, side, is_send}
 use Rattle.must_rules.specs.Breaches.{Breach, sends, part_of, asked_from}
-use Rattle.must_rules.specs.ArgumentHandles.{wrong_handle, wrong_handles, active, active_from}
+use Rattle.must_rules.specs.ArgumentHandles.{StartOf, wrong_handle, wrong_handles, active, active_from}
 use Rattle.must_args.specs.declared.setting.Setting.{Setting}
 use Rattle.must_args.specs.Settings.{usable_field, usable_from}
 
@@ -76,30 +76,30 @@ handles_more facts k of_buffer i (x ∷ hs) h =
     ∙ sym (append_assoc here rest (wrong_handle facts k of_buffer (suc i + length hs) h))
     ∙ ap (λ (m : ℕ). (here ++ rest) ++ wrong_handle facts k of_buffer m h) count
 
-pub active_more : (facts : Facts) (here : ℕ) (clear : Bool) (before : List ℕ) (i : ℕ) (hs : List ℕ) (h : ℕ)
-    → active_from facts here clear before i (hs ++ h ∷ []) ≡ active_from facts here clear before i hs ++ active here (clear && is_member nat_eq (before ++ hs) h) (i + length hs) h (facts.start_of h)
-active_more facts here clear before i [] h =
+pub active_more : (start_of : StartOf) (here : ℕ) (clear : Bool) (before : List ℕ) (i : ℕ) (hs : List ℕ) (h : ℕ)
+    → active_from start_of here clear before i (hs ++ h ∷ []) ≡ active_from start_of here clear before i hs ++ active here (clear && is_member nat_eq (before ++ hs) h) (i + length hs) h (start_of h)
+active_more start_of here clear before i [] h =
     let none : i ≡ i + 0 = omega arith in
-    append-nil (active here (clear && is_member nat_eq before h) i h (facts.start_of h))
-    ∙ ap (λ (b : List ℕ). active here (clear && is_member nat_eq b h) i h (facts.start_of h)) (sym (append-nil before))
-    ∙ ap (λ (m : ℕ). active here (clear && is_member nat_eq (before ++ []) h) m h (facts.start_of h)) none
-active_more facts here clear before i (x ∷ hs) h =
-    let first = active here (clear && is_member nat_eq before x) i x (facts.start_of x) in
-    let rest = active_from facts here clear (before ++ x ∷ []) (suc i) hs in
+    append-nil (active here (clear && is_member nat_eq before h) i h (start_of h))
+    ∙ ap (λ (b : List ℕ). active here (clear && is_member nat_eq b h) i h (start_of h)) (sym (append-nil before))
+    ∙ ap (λ (m : ℕ). active here (clear && is_member nat_eq (before ++ []) h) m h (start_of h)) none
+active_more start_of here clear before i (x ∷ hs) h =
+    let first = active here (clear && is_member nat_eq before x) i x (start_of x) in
+    let rest = active_from start_of here clear (before ++ x ∷ []) (suc i) hs in
     let count : suc i + length hs ≡ i + length (x ∷ hs) = omega arith in
-    ap (λ (r : List Breach). first ++ r) (active_more facts here clear (before ++ x ∷ []) (suc i) hs h)
-    ∙ sym (append_assoc first rest (active here (clear && is_member nat_eq ((before ++ x ∷ []) ++ hs) h) (suc i + length hs) h (facts.start_of h)))
-    ∙ ap (λ (m : ℕ). (first ++ rest) ++ active here (clear && is_member nat_eq ((before ++ x ∷ []) ++ hs) h) m h (facts.start_of h)) count
-    ∙ ap (λ (b : List ℕ). (first ++ rest) ++ active here (clear && is_member nat_eq b h) (i + length (x ∷ hs)) h (facts.start_of h)) (append_assoc before (x ∷ []) hs)
+    ap (λ (r : List Breach). first ++ r) (active_more start_of here clear (before ++ x ∷ []) (suc i) hs h)
+    ∙ sym (append_assoc first rest (active here (clear && is_member nat_eq ((before ++ x ∷ []) ++ hs) h) (suc i + length hs) h (start_of h)))
+    ∙ ap (λ (m : ℕ). (first ++ rest) ++ active here (clear && is_member nat_eq ((before ++ x ∷ []) ++ hs) h) m h (start_of h)) count
+    ∙ ap (λ (b : List ℕ). (first ++ rest) ++ active here (clear && is_member nat_eq b h) (i + length (x ∷ hs)) h (start_of h)) (append_assoc before (x ∷ []) hs)
 
 -- ---- usable
 
-abbrev pub usable_here : Facts → Setting → (all : List Typed) → (part : ℕ) → Typed → Bool
-usable_here facts s all part t = nat_eq (part_of s.sends (side t.0)) part && usable_field facts s all t.0
+abbrev pub usable_here : (sound_type : ℕ → Bool) → Setting → (all : List Typed) → (part : ℕ) → Typed → Bool
+usable_here sound_type s all part t = nat_eq (part_of s.sends (side t.0)) part && usable_field sound_type s all t.0
 
-pub usable_more : (facts : Facts) (s : Setting) (all : List Typed) (part : ℕ) (ts : List Typed) (t : Typed)
-    → usable_from facts s all part (ts ++ t ∷ []) ≡ (usable_from facts s all part ts || usable_here facts s all part t)
-usable_more facts s all part [] t = or-false (usable_here facts s all part t)
-usable_more facts s all part (x ∷ ts) t =
-    ap (λ b. usable_here facts s all part x || b) (usable_more facts s all part ts t)
-    ∙ or-or (usable_here facts s all part x) (usable_from facts s all part ts) (usable_here facts s all part t)
+pub usable_more : (sound_type : ℕ → Bool) (s : Setting) (all : List Typed) (part : ℕ) (ts : List Typed) (t : Typed)
+    → usable_from sound_type s all part (ts ++ t ∷ []) ≡ (usable_from sound_type s all part ts || usable_here sound_type s all part t)
+usable_more sound_type s all part [] t = or-false (usable_here sound_type s all part t)
+usable_more sound_type s all part (x ∷ ts) t =
+    ap (λ b. usable_here sound_type s all part x || b) (usable_more sound_type s all part ts t)
+    ∙ or-or (usable_here sound_type s all part x) (usable_from sound_type s all part ts) (usable_here sound_type s all part t)

@@ -42,33 +42,33 @@ significant_is facts b s f is =
     ∙ ap (λ x. is_significant (kind_of b) x (told_seat s.seat) f) is.in_place_is
     ∙ ap (λ x. is_significant (kind_of b) (in_place b) x f) is.seat_is
 
-field_usable : (facts : Facts) (b : Body) (s : Setting) (f : Field) → IsSetting facts b s → usable_field facts s (inputs_of b) f ≡ is_usable_buffer facts b f
-field_usable facts b s (Buffer side) is = ap (λ x. x && is_usable_side facts (inputs_of b) side) (significant_is facts b s (Buffer side) is)
-field_usable facts b s (Handle r) is = refl
-field_usable facts b s (I32 u) is = refl
-field_usable facts b s (I64 u) is = refl
-field_usable facts b s (Bit u) is = refl
-field_usable facts b s Order is = refl
-field_usable facts b s (Items i) is = refl
+field_usable : (facts : Facts) (sound : ℕ → Bool) (b : Body) (s : Setting) (f : Field) → IsSetting facts b s → usable_field sound s (inputs_of b) f ≡ is_usable_buffer facts sound b f
+field_usable facts sound b s (Buffer side) is = ap (λ x. x && is_usable_side sound (inputs_of b) side) (significant_is facts b s (Buffer side) is)
+field_usable facts sound b s (Handle r) is = refl
+field_usable facts sound b s (I32 u) is = refl
+field_usable facts sound b s (I64 u) is = refl
+field_usable facts sound b s (Bit u) is = refl
+field_usable facts sound b s Order is = refl
+field_usable facts sound b s (Items i) is = refl
 
-pub usable_is : (facts : Facts) (b : Body) (s : Setting) (part : ℕ) (ts : List Typed) → IsSetting facts b s → usable_from facts s (inputs_of b) part ts ≡ usable_among facts b part ts
-usable_is facts b s part [] is = refl
-usable_is facts b s part (t ∷ ts) is =
-    ap (λ x. (nat_eq (part_of x (side t.0)) part && usable_field facts s (inputs_of b) t.0) || usable_from facts s (inputs_of b) part ts) is.sends_is
-    ∙ ap (λ x. (nat_eq (part_in b t.0) part && x) || usable_from facts s (inputs_of b) part ts) (field_usable facts b s t.0 is)
-    ∙ ap (λ x. (nat_eq (part_in b t.0) part && is_usable_buffer facts b t.0) || x) (usable_is facts b s part ts is)
+pub usable_is : (facts : Facts) (sound : ℕ → Bool) (b : Body) (s : Setting) (part : ℕ) (ts : List Typed) → IsSetting facts b s → usable_from sound s (inputs_of b) part ts ≡ usable_among facts sound b part ts
+usable_is facts sound b s part [] is = refl
+usable_is facts sound b s part (t ∷ ts) is =
+    ap (λ x. (nat_eq (part_of x (side t.0)) part && usable_field sound s (inputs_of b) t.0) || usable_from sound s (inputs_of b) part ts) is.sends_is
+    ∙ ap (λ x. (nat_eq (part_in b t.0) part && x) || usable_from sound s (inputs_of b) part ts) (field_usable facts sound b s t.0 is)
+    ∙ ap (λ x. (nat_eq (part_in b t.0) part && is_usable_buffer facts sound b t.0) || x) (usable_is facts sound b s part ts is)
 
 some_size : (o : Option Comm) → is_some (option_map size_of_comm o) ≡ is_some o
 some_size (Some c) = refl
 some_size None = refl
 
 -- a call that is clear, on a communicator that is live and sound
-pub usable_there : (facts : Facts) (b : Body) (s : Setting) → IsSetting facts b s → is_clear facts b ≡ true → is_some s.size ≡ true
-    → (if usable_from facts s (inputs_of b) 0 (inputs_of b) then 1 else 0) + (if usable_from facts s (inputs_of b) 1 (inputs_of b) then 2 else 0) ≡ usable_parts facts b
-usable_there facts b s is clear size =
+pub usable_there : (facts : Facts) (sound : ℕ → Bool) (b : Body) (s : Setting) → IsSetting facts b s → is_clear facts b ≡ true → is_some s.size ≡ true
+    → (if usable_from sound s (inputs_of b) 0 (inputs_of b) then 1 else 0) + (if usable_from sound s (inputs_of b) 1 (inputs_of b) then 2 else 0) ≡ usable_parts facts sound b
+usable_there facts sound b s is clear size =
     let comm : is_some (comm_of facts b) ≡ true = sym (some_size (comm_of facts b)) ∙ ap is_some (sym is.size_is) ∙ size in
-    let here : (part : ℕ) → usable_from facts s (inputs_of b) part (inputs_of b) ≡ is_usable facts b part = λ part.
-    usable_is facts b s part (inputs_of b) is
-    ∙ sym (ap (λ x. x && is_some (comm_of facts b) && usable_among facts b part (inputs_of b)) clear ∙ ap (λ x. x && usable_among facts b part (inputs_of b)) comm) in
-    ap (λ x. (if x then 1 else 0) + (if usable_from facts s (inputs_of b) 1 (inputs_of b) then 2 else 0)) (here 0)
-    ∙ ap (λ x. (if is_usable facts b 0 then 1 else 0) + (if x then 2 else 0)) (here 1)
+    let here : (part : ℕ) → usable_from sound s (inputs_of b) part (inputs_of b) ≡ is_usable facts sound b part = λ part.
+    usable_is facts sound b s part (inputs_of b) is
+    ∙ sym (ap (λ x. x && is_some (comm_of facts b) && usable_among facts sound b part (inputs_of b)) clear ∙ ap (λ x. x && usable_among facts sound b part (inputs_of b)) comm) in
+    ap (λ x. (if x then 1 else 0) + (if usable_from sound s (inputs_of b) 1 (inputs_of b) then 2 else 0)) (here 0)
+    ∙ ap (λ x. (if is_usable facts sound b 0 then 1 else 0) + (if x then 2 else 0)) (here 1)

@@ -13,7 +13,7 @@ use Rattle.must_find.specs.declared.finding.Finding.{Finding}
 use Rattle.must_rules.specs.Facts.{Facts}
 use Rattle.must_rules.specs.Significant.{or_else, first_told, side, is_send}
 use Rattle.must_rules.specs.Breaches.{Breach, AddsBreaches, sends, asked_from}
-use Rattle.must_rules.specs.ArgumentHandles.{wrong_handle, wrong_handles, active, active_from}
+use Rattle.must_rules.specs.ArgumentHandles.{StartOf, wrong_handle, wrong_handles, active, active_from}
 use Rattle.must_args.specs.declared.setting.Setting.{Setting}
 use Rattle.must_args.specs.Settings.{usable_from}
 use Rattle.must_args.proofs.Added.{adds_both, adds_as}
@@ -43,9 +43,9 @@ module _ {A : Type 0} (f : A → Typed) (xs : List A) (j : ℕ) (x : A) (within 
   sends_step old new before step =
       step ∙ ap (λ o. o || is_send (side (f x).0)) before ∙ sym (ap sends (seen_more f xs j x x within is) ∙ sends_more (map f (take j xs)) (f x))
 
-  pub usable_step : (facts : Facts) (s : Setting) (all : List Typed) (part : ℕ) (old new : Bool) → old ≡ usable_from facts s all part (map f (take j xs)) → new ≡ (old || usable_here facts s all part (f x)) → new ≡ usable_from facts s all part (map f (take (j + 1) xs))
-  usable_step facts s all part old new before step =
-      step ∙ ap (λ o. o || usable_here facts s all part (f x)) before ∙ sym (ap (usable_from facts s all part) (seen_more f xs j x x within is) ∙ usable_more facts s all part (map f (take j xs)) (f x))
+  pub usable_step : (sound_type : ℕ → Bool) (s : Setting) (all : List Typed) (part : ℕ) (old new : Bool) → old ≡ usable_from sound_type s all part (map f (take j xs)) → new ≡ (old || usable_here sound_type s all part (f x)) → new ≡ usable_from sound_type s all part (map f (take (j + 1) xs))
+  usable_step sound_type s all part old new before step =
+      step ∙ ap (λ o. o || usable_here sound_type s all part (f x)) before ∙ sym (ap (usable_from sound_type s all part) (seen_more f xs j x x within is) ∙ usable_more sound_type s all part (map f (take j xs)) (f x))
 
   pub fields_step : (test : Field → Bool) (rule : ℕ → Typed → List Breach) (at : Place) (old mid new : List Finding) (number : ℕ) → number ≡ handles_in (map f (take j xs))
       → AddsBreaches at old mid (asked_from test rule 0 (map f (take j xs))) → AddsBreaches at mid new (if test (f x).0 then rule number (f x) else []) → AddsBreaches at old new (asked_from test rule 0 (map f (take (j + 1) xs)))
@@ -79,14 +79,14 @@ handles_step f facts k of_buffer i xs j x d at old mid new within is before step
     ∙ ap (λ (n : ℕ). wrong_handles facts k of_buffer i (map f (take j xs)) ++ wrong_handle facts k of_buffer (i + n) (f x)) (seen_length f xs j within) in
     adds_as at old new _ _ (sym more) (adds_both at old mid new _ _ before step)
 
-pub active_step : (facts : Facts) (here : ℕ) (clear : Bool) (xs : List ℕ) (j : ℕ) (at : Place) (old mid new : List Finding) → j < length xs
-    → AddsBreaches at old mid (active_from facts here clear [] 0 (take j xs))
-    → AddsBreaches at mid new (active here (clear && is_member nat_eq (take j xs) (get_or xs j 0)) j (get_or xs j 0) (facts.start_of (get_or xs j 0)))
-    → AddsBreaches at old new (active_from facts here clear [] 0 (take (j + 1) xs))
-active_step facts here clear xs j at old mid new within before step =
+pub active_step : (start_of : StartOf) (here : ℕ) (clear : Bool) (xs : List ℕ) (j : ℕ) (at : Place) (old mid new : List Finding) → j < length xs
+    → AddsBreaches at old mid (active_from start_of here clear [] 0 (take j xs))
+    → AddsBreaches at mid new (active here (clear && is_member nat_eq (take j xs) (get_or xs j 0)) j (get_or xs j 0) (start_of (get_or xs j 0)))
+    → AddsBreaches at old new (active_from start_of here clear [] 0 (take (j + 1) xs))
+active_step start_of here clear xs j at old mid new within before step =
     let x = get_or xs j 0 in
-    let more : active_from facts here clear [] 0 (take (j + 1) xs) ≡ active_from facts here clear [] 0 (take j xs) ++ active here (clear && is_member nat_eq (take j xs) x) j x (facts.start_of x) =
-    ap (active_from facts here clear [] 0) (front_more xs j x 0 within refl)
-    ∙ active_more facts here clear [] 0 (take j xs) x
-    ∙ ap (λ (n : ℕ). active_from facts here clear [] 0 (take j xs) ++ active here (clear && is_member nat_eq (take j xs) x) n x (facts.start_of x)) (zero-add (length (take j xs)) ∙ length-take-le j xs (omega (arith, within))) in
+    let more : active_from start_of here clear [] 0 (take (j + 1) xs) ≡ active_from start_of here clear [] 0 (take j xs) ++ active here (clear && is_member nat_eq (take j xs) x) j x (start_of x) =
+    ap (active_from start_of here clear [] 0) (front_more xs j x 0 within refl)
+    ∙ active_more start_of here clear [] 0 (take j xs) x
+    ∙ ap (λ (n : ℕ). active_from start_of here clear [] 0 (take j xs) ++ active here (clear && is_member nat_eq (take j xs) x) n x (start_of x)) (zero-add (length (take j xs)) ∙ length-take-le j xs (omega (arith, within))) in
     adds_as at old new _ _ (sym more) (adds_both at old mid new _ _ before step)

@@ -44,10 +44,10 @@ pub record IsSetting (facts : Facts) (b : Body) (s : Setting) : Type 0 where
 
 -- ---- usable
 
-abbrev pub usable_field : Facts → Setting → (all : List Typed) → Field → Bool
-usable_field facts s all (Buffer side) = has_sense s (Buffer side) && is_usable_side facts all side
-usable_field facts s all _ = false
+abbrev pub usable_field : (sound_type : ℕ → Bool) → Setting → (all : List Typed) → Field → Bool
+usable_field sound_type s all (Buffer side) = has_sense s (Buffer side) && is_usable_side sound_type all side
+usable_field sound_type s all _ = false
 
-abbrev pub usable_from : Facts → Setting → (all : List Typed) → (part : ℕ) → List Typed → Bool
-usable_from facts s all part [] = false
-usable_from facts s all part (t ∷ ts) = (nat_eq (part_of s.sends (side t.0)) part && usable_field facts s all t.0) || usable_from facts s all part ts
+abbrev pub usable_from : (sound_type : ℕ → Bool) → Setting → (all : List Typed) → (part : ℕ) → List Typed → Bool
+usable_from sound_type s all part [] = false
+usable_from sound_type s all part (t ∷ ts) = (nat_eq (part_of s.sends (side t.0)) part && usable_field sound_type s all t.0) || usable_from sound_type s all part ts

@@ -51,9 +51,9 @@ pub fn check_args<V: View>(
     out: &mut Findings,
 ) -> Result<Usable, NoMemory>
     requires { length (handles_of call.now.body) < 2 ^ 32 }
-    ensures rows { OnOk result (AddsBreaches at out.old out.new (argument_breaches (V.facts view.now) at.call call.now.body)) }
+    ensures rows { OnOk result (AddsBreaches at out.old out.new (argument_breaches (V.facts view.now) (V.starts view.now) at.call call.now.body)) }
     ensures clear { IfOk result (λ usable. usable.clear ≡ is_clear (V.facts view.now) call.now.body) }
-    ensures parts { IfOk result (λ usable. usable.parts ≡ usable_parts (V.facts view.now) call.now.body) }
+    ensures parts { IfOk result (λ usable. usable.parts ≡ usable_parts (V.facts view.now) (V.sound view.now) call.now.body) }
     ensures err { OnErr result (out.new ≡ out.old) }
 {
     let body = &call.body;

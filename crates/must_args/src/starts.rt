@@ -23,7 +23,7 @@ fn judge_start<V: View>(
     again: bool,
     request: u32,
 ) -> Option<(Rule, Option<u32>)>
-    ensures { (part : ℕ) → handle_told part request result ≡ active here again part request ((V.facts view.now).start_of request) }
+    ensures { (part : ℕ) → handle_told part request result ≡ active here again part request (V.starts view.now request) }
 {
     match view.start_of(request) {
         Some(start) => Some((Rule::H5, Some(start))),
@@ -45,7 +45,7 @@ fn judge_active<V: View>(
     rows: &mut Findings,
 ) -> Result<(), NoMemory>
     requires { length requests.now < 2 ^ 32 }
-    ensures { OnOk result (AddsBreaches at rows.old rows.new (active_from (V.facts view.now) at.call false [] 0 requests.now)) }
+    ensures { OnOk result (AddsBreaches at rows.old rows.new (active_from (V.starts view.now) at.call false [] 0 requests.now)) }
 {
     for (i, request) in requests.iter().enumerate() {
         let broken = judge_start(view, at.call, false, *request);
@@ -72,7 +72,7 @@ fn judge_started<V: View>(
     rows: &mut Findings,
 ) -> Result<(), NoMemory>
     requires { length requests.now < 2 ^ 32 }
-    ensures { OnOk result (AddsBreaches at rows.old rows.new (active_from (V.facts view.now) at.call true [] 0 requests.now)) }
+    ensures { OnOk result (AddsBreaches at rows.old rows.new (active_from (V.starts view.now) at.call true [] 0 requests.now)) }
 {
     let mut seen = BTreeSet::new(alloc);
     for (i, request) in requests.iter().enumerate() {
@@ -93,7 +93,7 @@ pub(crate) fn judge_starts<V: View>(
     rows: &mut Findings,
 ) -> Result<(), NoMemory>
     requires { length (handles_of body.now) < 2 ^ 32 }
-    ensures { OnOk result (AddsBreaches at rows.old rows.new (active_requests (V.facts view.now) at.call clear body.now)) }
+    ensures { OnOk result (AddsBreaches at rows.old rows.new (active_requests (V.starts view.now) at.call clear body.now)) }
 {
     match body {
         Body::Persist(Persist::Start { request }) => judge_active(view, at, &[*request], rows),

@@ -42,9 +42,11 @@ impl View for Known {
       committed = λ n. nat_lt n 64;
       comm = λ n. if n == 1 && nat_lt (length k.world) 4294967296 then Some (record { members = k.world; position = k.position }) else None;
       group = λ n. if n == 64 then Some k.world else if n == 66 then Some k.others else None;
-      sound_type = λ n. not (n == 64);
-      start_of = λ n. if n == 66 then Some 2 else None;
     } };
+
+    ghost sound = { λ k n. not (n == 64) };
+
+    ghost starts = { λ k n. if n == 66 then Some 2 else None };
 
     fn life(&self, _class: Class, number: u32) -> Life {
         match number {

@@ -118,7 +118,7 @@ fn peer_of(arguments: &[Argument<'_>], side: Side) -> Option<i32>
 }
 
 fn is_sound<V: View>(view: &V, dtype: Option<u32>) -> bool
-    ensures { result ≡ is_sound (V.facts view.now) dtype }
+    ensures { result ≡ is_sound (V.sound view.now) dtype }
 {
     match dtype {
         Some(dtype) => view.sound_type(dtype),
@@ -136,7 +136,7 @@ fn is_proc_null(peer: Option<i32>) -> bool
 }
 
 fn is_usable_side<V: View>(view: &V, arguments: &[Argument<'_>], side: Side) -> bool
-    ensures { result ≡ is_usable_side (V.facts view.now) (all_seen arguments.now) side }
+    ensures { result ≡ is_usable_side (V.sound view.now) (all_seen arguments.now) side }
 {
     is_sound(view, type_of(arguments, side)) && !is_proc_null(peer_of(arguments, side))
 }
@@ -147,7 +147,7 @@ fn is_usable_field<V: View>(
     arguments: &[Argument<'_>],
     argument: &Argument<'_>,
 ) -> bool
-    ensures { result ≡ usable_field (V.facts view.now) setting.now (all_seen arguments.now) (seen argument.now).0 }
+    ensures { result ≡ usable_field (V.sound view.now) setting.now (all_seen arguments.now) (seen argument.now).0 }
 {
     match argument {
         Argument::Buffer(side, _) => {
@@ -176,7 +176,7 @@ fn bits(first: bool, second: bool) -> u8
 
 /// The usable sides of a clear call on a live and sound communicator, as bits of their parts.
 fn usable_sides<V: View>(view: &V, setting: &Setting, arguments: &[Argument<'_>]) -> u8
-    ensures { result ≡ (if usable_from (V.facts view.now) setting.now (all_seen arguments.now) 0 (all_seen arguments.now) then 1 else 0) + (if usable_from (V.facts view.now) setting.now (all_seen arguments.now) 1 (all_seen arguments.now) then 2 else 0) }
+    ensures { result ≡ (if usable_from (V.sound view.now) setting.now (all_seen arguments.now) 0 (all_seen arguments.now) then 1 else 0) + (if usable_from (V.sound view.now) setting.now (all_seen arguments.now) 1 (all_seen arguments.now) then 2 else 0) }
 {
     let mut first = false;
     let mut second = false;
@@ -200,7 +200,7 @@ pub(crate) fn parts_of<V: View>(
     requires fields { all_seen arguments.now ≡ inputs_of body.now }
     requires setting { IsSetting (V.facts view.now) body.now setting.now }
     requires clear { clear ≡ is_clear (V.facts view.now) body.now }
-    ensures { result ≡ usable_parts (V.facts view.now) body.now }
+    ensures { result ≡ usable_parts (V.facts view.now) (V.sound view.now) body.now }
 {
     if !clear {
         return 0;

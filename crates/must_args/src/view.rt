@@ -1,16 +1,22 @@
 //! What a rank knows at a call.
 
-ghost use Rattle.std.specs.Prelude.{◌≡◌};
+ghost use Rattle.std.specs.Prelude.{◌≡◌, ℕ, Bool};
 ghost use Rattle.std.specs.Option.{option_map};
 ghost use Rattle.must_rules.specs.Facts.{Facts, members_of, position_of, size_of_comm};
+ghost use Rattle.must_rules.specs.ArgumentHandles.{StartOf};
 
 use must_call::{Class, Life};
 use must_group::Group;
 
-/// What the earlier calls of a rank made of its handles. Contracts see it as one record of functions, `facts`. None of the
+/// What the earlier calls of a rank made of its handles. Contracts see it as functions of handle numbers: `facts`, which say
+/// what calls are clear, `sound`, which datatypes are sound, and `starts`, which call started an active request. None of the
 /// calls takes memory.
 pub trait View {
     ghost facts: { Self → Facts };
+
+    ghost sound: { Self → ℕ → Bool };
+
+    ghost starts: { Self → StartOf };
 
     /// What became of a handle number.
     fn life(&self, class: Class, number: u32) -> Life
@@ -38,7 +44,7 @@ pub trait View {
 
     /// Whether a datatype is sound.
     fn sound_type(&self, number: u32) -> bool
-        ensures { result ≡ (facts self.now).sound_type number };
+        ensures { result ≡ sound self.now number };
 
     /// The greatest tag.
     fn tag_ub(&self) -> i32
@@ -46,5 +52,5 @@ pub trait View {
 
     /// The call that started an active request; none where the number isn't an active request.
     fn start_of(&self, number: u32) -> Option<u32>
-        ensures { result ≡ (facts self.now).start_of number };
+        ensures { result ≡ starts self.now number };
 }

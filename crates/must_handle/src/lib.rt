@@ -14,3 +14,4 @@ mod slot;
 mod tests;
 
 pub use lives::Lives;
+pub use making::made;

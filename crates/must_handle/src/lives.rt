@@ -255,7 +255,8 @@ impl Lives {
 
     /// The life of a handle after the calls taken so far. A number of another class is `Never`.
     pub fn state(&self, class: Class, number: u32) -> Life
-        ensures { (is_clear : Clearness) (calls : List Call) → Stands is_clear self.now calls → result ≡ life calls class number }
+        ensures table { result ≡ state_in self.now class number }
+        ensures stands { (is_clear : Clearness) (calls : List Call) → Stands is_clear self.now calls → result ≡ life calls class number }
     {
         handle_life(&self.slots, class, number)
     }
@@ -270,14 +271,16 @@ impl Lives {
     /// The call that started an active request; none exactly where the number isn't that of an active request. A live
     /// request that isn't persistent was started by its making call.
     pub fn start_of(&self, number: u32) -> Option<u32>
-        ensures { (is_clear : Clearness) (calls : List Call) → Stands is_clear self.now calls → result ≡ start_of is_clear calls number }
+        ensures table { result ≡ start_in self.now number }
+        ensures stands { (is_clear : Clearness) (calls : List Call) → Stands is_clear self.now calls → result ≡ start_of is_clear calls number }
     {
         request_start(&self.slots, number)
     }
 
     /// Whether a type is committed.
     pub fn committed(&self, number: u32) -> bool
-        ensures { (is_clear : Clearness) (calls : List Call) → Stands is_clear self.now calls → result ≡ committed calls number }
+        ensures table { result ≡ committed_in self.now number }
+        ensures stands { (is_clear : Clearness) (calls : List Call) → Stands is_clear self.now calls → result ≡ committed calls number }
     {
         has_committed(&self.slots, number)
     }

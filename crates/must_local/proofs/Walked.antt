@@ -8,31 +8,36 @@ use Rattle.must_call.specs.declared.class.Class.{Class}
 use Rattle.must_call.specs.declared.class.Class.TheVariants.{Comm, Group, Datatype, Operation, Request}
 use Rattle.must_call.specs.declared.call.Call.{Call}
 use Rattle.must_find.specs.declared.rule.Rule.{Rule}
-use Rattle.must_find.specs.declared.rule.Rule.TheVariants.{I1, I2, I3, A1, A2, L1, L2, L3, L4, L5}
+use Rattle.must_find.specs.declared.rule.Rule.TheVariants.{I1, I2, I3, A1, A2, A3, A4, A5, A6, A7, H1, H2, H3, H4, H5, L1, L2, L3, L4, L5}
 use Rattle.must_find.specs.declared.finding.Finding.{Finding}
 use Rattle.must_base.specs.Listing.{Has, Rises}
 use Rattle.must_find.specs.Order.{by_all}
 use Rattle.must_find.specs.OrderLaws.{by_all_total}
 use Rattle.must_rules.specs.Answer.{Answer, at_part}
-use Rattle.must_rules.specs.Counts.{count_below_zero}
-use Rattle.must_rules.specs.Peers.{peer_outside}
 use Rattle.must_rules.specs.Rank.{Rank}
 use Rattle.must_rules.specs.Search.{first_where, or_then, only_if}
 use Rattle.must_rules.specs.SearchLaws.{first_more}
 use Rattle.must_rules.specs.Frames.{is_init, is_finalize, first_init, first_finalize, ends_returned, last_returned, init_answer, seeing, outside_init, after_finalize, missing, no_finalize}
 use Rattle.must_rules.specs.Lives.{open_handles}
 use Rattle.must_rules.specs.Leaks.{ends_rank, leak, leak_in, not_freed}
-use Rattle.must_rules.specs.Local.{finding_behind, finding_whole, IsBehind, IsHere, IsWhole, IsLocal}
+use Rattle.must_rules.specs.Local.{finding_behind, finding_whole, breaches_at, IsBehind, IsHere, IsWhole, IsLocal}
 use Rattle.must_rules.specs.LocalLaws.{here_none, here_more, here_again, here_last, here_within, here_whole, local_here, local_whole, local_cases}
 use Rattle.must_local.specs.Distinct.{AreDistinct}
 use Rattle.must_local.specs.DistinctLaws.{has_append, has_front, has_behind, distinct_append, rises_distinct}
 use Rattle.must_find.specs.Adds.{Adds}
-use Rattle.must_rules.specs.Starts.{TellsClear}
-use Rattle.must_handle.specs.Slots.{Stands}
+use Rattle.must_call.specs.declared.place.Place.{Place}
+use Rattle.must_rules.specs.Starts.{Clearness}
+use Rattle.must_rules.specs.Breaches.{Breach, IsBreach, AddsBreaches}
+use Rattle.must_rules.specs.Clear.{argument_breaches}
+use Rattle.must_rules.specs.Known.{clear_behind}
+use Rattle.must_rules.specs.WrongLaws.{place_behind, breach_found, found_breach}
+use Rattle.must_handle.specs.Slots.{Stands, start_in}
+use Rattle.must_local.specs.HandlesKnown.{facts_in, HandlesStand}
+use Rattle.must_local.proofs.Facing.{breaches_are}
 use Rattle.must_local.specs.declared.batch.Batch.{Batch}
 use Rattle.must_local.specs.Entries.{rows_of}
 use Rattle.must_local.specs.Adding.{IsOfRule, FrameRows, ArgumentRows, ClassRows, LeakRows, LeakRowsAt, RowsAt, RowsAtEnd}
-use Rattle.must_local.specs.Walks.{WalkState, rank_by, Knows, Walks, GivesAll, IsMiddle, all_rows, taken_clear}
+use Rattle.must_local.specs.Walks.{WalkState, rank_by, Knows, Walks, GivesAll, IsMiddle, all_rows, RankTold}
 
 -- ---- the tables
 
@@ -44,14 +49,14 @@ first_next : (test : Call → Bool) (calls : List Call) (call : Call) (o : Optio
     → or_then o (only_if (test call) k) ≡ first_where test (calls ++ call ∷ [])
 first_next test calls call o k e n = ap (λ (x : Option ℕ). or_then x (only_if (test call) k)) e ∙ ap (λ m. or_then (first_where test calls) (only_if (test call) m)) n ∙ sym (first_more test calls call)
 
-pub knows_next : (w v : WalkState) (calls : List Call) (call : Call) → Knows w calls → v.number ≡ w.number + 1 → v.init ≡ or_then w.init (only_if (is_init call) w.number) → v.finalize ≡ or_then w.finalize (only_if (is_finalize call) w.number)
-    → v.returned ≡ call.returned → Stands taken_clear v.slots (calls ++ call ∷ []) → Knows v (calls ++ call ∷ [])
-knows_next w v calls call knows n i f r stands = record {
+pub knows_next : (version : ℕ) (w v : WalkState) (calls : List Call) (call : Call) → Knows version w calls → v.number ≡ w.number + 1 → v.init ≡ or_then w.init (only_if (is_init call) w.number) → v.finalize ≡ or_then w.finalize (only_if (is_finalize call) w.number)
+    → v.returned ≡ call.returned → HandlesStand (rank_by version v.rank) v.handles (calls ++ call ∷ []) → Knows version v (calls ++ call ∷ [])
+knows_next version w v calls call knows n i f r stands = record {
   number = omega (arith, n, knows.number, length-append calls (call ∷ []));
   init = i ∙ first_next is_init calls call w.init w.number knows.init knows.number;
   finalize = f ∙ first_next is_finalize calls call w.finalize w.number knows.finalize knows.number;
   returned = r ∙ sym (returned_more true calls call);
-  lives = stands;
+  handles = stands;
 }
 
 -- ---- the rows of a call
@@ -59,7 +64,7 @@ knows_next w v calls call knows n i f r stands = record {
 abbrev AllRows : Rank → List Call → Call → Finding → Type 0
 AllRows r calls call f =
     FrameRows r.rank (length calls) (first_init calls) (first_finalize calls) call f
-    ⊎ (ArgumentRows r.rank (length calls) r.size call f ⊎ LeakRowsAt r.rank (length calls) (ends_rank calls call) calls f)
+    ⊎ (ArgumentRows r calls call f ⊎ LeakRowsAt r.rank (length calls) (ends_rank calls call) calls f)
 
 no_answer : (a : Answer) {P : Type 0} → None ≡ Some a → P
 no_answer a e = absurd cc
@@ -76,8 +81,18 @@ cases_by : (r : Rank) (calls : List Call) (call : Call) (f : Finding) (rule : Ru
 unfolding outside_init after_finalize not_freed
 cases_by r calls call f I1 e a n d = inl (inl (of_rule r calls I1 (at_part 0 (init_answer r.rank (is_init call) (first_init calls))) f a n e d))
 cases_by r calls call f I2 e a n d = inl (inr (of_rule r calls I2 (at_part 0 (seeing r.rank (first_finalize calls))) f a n e d))
-cases_by r calls call f A1 e a n d = inr (inl (inl (of_rule r calls A1 (at_part 0 (count_below_zero call)) f a n e d)))
-cases_by r calls call f A2 e a n d = inr (inl (inr (of_rule r calls A2 (at_part 0 (peer_outside r.size call)) f a n e d)))
+cases_by r calls call f A1 e a n d = inr (inl (found_breach r calls call f A1 e refl a n d))
+cases_by r calls call f A2 e a n d = inr (inl (found_breach r calls call f A2 e refl a n d))
+cases_by r calls call f A3 e a n d = inr (inl (found_breach r calls call f A3 e refl a n d))
+cases_by r calls call f A4 e a n d = inr (inl (found_breach r calls call f A4 e refl a n d))
+cases_by r calls call f A5 e a n d = inr (inl (found_breach r calls call f A5 e refl a n d))
+cases_by r calls call f A6 e a n d = inr (inl (found_breach r calls call f A6 e refl a n d))
+cases_by r calls call f A7 e a n d = inr (inl (found_breach r calls call f A7 e refl a n d))
+cases_by r calls call f H1 e a n d = inr (inl (found_breach r calls call f H1 e refl a n d))
+cases_by r calls call f H2 e a n d = inr (inl (found_breach r calls call f H2 e refl a n d))
+cases_by r calls call f H3 e a n d = inr (inl (found_breach r calls call f H3 e refl a n d))
+cases_by r calls call f H4 e a n d = inr (inl (found_breach r calls call f H4 e refl a n d))
+cases_by r calls call f H5 e a n d = inr (inl (found_breach r calls call f H5 e refl a n d))
 cases_by r calls call f L1 e a n d = inr (inr (leaks_from r calls Datatype L1 f (ends_rank calls call) a n e d (λ x. inl x)))
 cases_by r calls call f L2 e a n d = inr (inr (leaks_from r calls Comm L2 f (ends_rank calls call) a n e d (λ x. inr (inl x))))
 cases_by r calls call f L3 e a n d = inr (inr (leaks_from r calls Group L3 f (ends_rank calls call) a n e d (λ x. inr (inr (inl x)))))
@@ -94,9 +109,8 @@ unfolding outside_init after_finalize
 frames_to r calls call f (inl is) = by_rule r calls call I1 (at_part 0 (init_answer r.rank (is_init call) (first_init calls))) f is refl
 frames_to r calls call f (inr is) = by_rule r calls call I2 (at_part 0 (seeing r.rank (first_finalize calls))) f is refl
 
-arguments_to : (r : Rank) (calls : List Call) (call : Call) (f : Finding) → ArgumentRows r.rank (length calls) r.size call f → IsBehind r calls call f
-arguments_to r calls call f (inl is) = by_rule r calls call A1 (at_part 0 (count_below_zero call)) f is refl
-arguments_to r calls call f (inr is) = by_rule r calls call A2 (at_part 0 (peer_outside r.size call)) f is refl
+arguments_to : (r : Rank) (calls : List Call) (call : Call) (f : Finding) → ArgumentRows r calls call f → IsBehind r calls call f
+arguments_to r calls call f is = breach_found r calls call f is
 
 leaks_to : (r : Rank) (calls : List Call) (call : Call) (f : Finding) (b : Bool) → ends_rank calls call ≡ b → LeakRowsAt r.rank (length calls) b calls f → IsBehind r calls call f
 unfolding not_freed
@@ -109,7 +123,7 @@ leaks_to r calls call f true e (inr (inr (inr (inr is)))) = by_rule r calls call
 
 -- what the three families add is what stands at the call
 pub rows_behind : (r : Rank) (calls : List Call) (call : Call) (a b d : List Finding)
-    → Adds [] a (FrameRows r.rank (length calls) (first_init calls) (first_finalize calls) call) → Adds a b (ArgumentRows r.rank (length calls) r.size call)
+    → Adds [] a (FrameRows r.rank (length calls) (first_init calls) (first_finalize calls) call) → Adds a b (ArgumentRows r calls call)
     → Adds b d (LeakRowsAt r.rank (length calls) (ends_rank calls call) calls) → Rises by_all d → RowsAt r calls call d
 rows_behind r calls call a b d frames arguments leaks rises = record {
   rises = rises;
@@ -130,8 +144,8 @@ rows_behind r calls call a b d frames arguments leaks rises = record {
 }
 
 -- the same, by what the tables tell
-pub rows_known : (version : ℕ) (w : WalkState) (calls : List Call) (call : Call) (ends : Bool) (a b d : List Finding) → Knows w calls → ends ≡ is_finalize call && is_none w.finalize
-    → Adds [] a (FrameRows (rank_by version w.rank).rank w.number w.init w.finalize call) → Adds a b (ArgumentRows (rank_by version w.rank).rank w.number (rank_by version w.rank).size call)
+pub rows_known : (version : ℕ) (w : WalkState) (calls : List Call) (call : Call) (ends : Bool) (a b d : List Finding) → Knows version w calls → ends ≡ is_finalize call && is_none w.finalize
+    → Adds [] a (FrameRows (rank_by version w.rank).rank w.number w.init w.finalize call) → Adds a b (ArgumentRows (rank_by version w.rank) calls call)
     → Adds b d (LeakRowsAt (rank_by version w.rank).rank w.number ends calls) → Rises by_all d → RowsAt (rank_by version w.rank) calls call d
 rows_known version w calls call ends a b d knows e frames arguments leaks rises =
     let r = rank_by version w.rank in
@@ -140,7 +154,7 @@ rows_known version w calls call ends a b d knows e frames arguments leaks rises 
     (subst (λ (o : Option ℕ). Adds [] a (FrameRows r.rank (length calls) (first_init calls) o call)) knows.finalize
     (subst (λ (o : Option ℕ). Adds [] a (FrameRows r.rank (length calls) o w.finalize call)) knows.init
     (subst (λ (m : ℕ). Adds [] a (FrameRows r.rank m w.init w.finalize call)) n frames)))
-    (subst (λ (m : ℕ). Adds a b (ArgumentRows r.rank m r.size call)) n arguments)
+    arguments
     (subst (λ (x : Bool). Adds b d (LeakRowsAt r.rank (length calls) x calls)) (e ∙ ap (λ (o : Option ℕ). is_finalize call && is_none o) knows.finalize)
     (subst (λ (m : ℕ). Adds b d (LeakRowsAt r.rank m ends calls)) n leaks))
     rises
@@ -148,9 +162,9 @@ rows_known version w calls call ends a b d knows e frames arguments leaks rises 
 -- ---- the batches
 
 -- before the first call
-pub walks_first : (version : ℕ) (w : WalkState) → w.number ≡ 0 → w.init ≡ None → w.finalize ≡ None → w.returned ≡ true → Stands taken_clear w.slots [] → Walks version w [] []
+pub walks_first : (version : ℕ) (w : WalkState) → w.number ≡ 0 → w.init ≡ None → w.finalize ≡ None → w.returned ≡ true → HandlesStand (rank_by version w.rank) w.handles [] → Walks version w [] []
 walks_first version w n i f r stands = record {
-  knows = record { number = n; init = i; finalize = f; returned = r; lives = stands };
+  knows = record { number = n; init = i; finalize = f; returned = r; handles = stands };
   once = tt;
   rows = λ g. (λ h. absurd h, λ is. absurd (here_none (rank_by version w.rank) g is));
   middle = tt;
@@ -178,7 +192,7 @@ joined P Q R fs gs old new apart p q r = record {
   );
 }
 
-pub walks_more : (version : ℕ) (w v : WalkState) (calls : List Call) (call : Call) (given : List Batch) (batch : Batch) (rows : List Finding) → Knows v (calls ++ call ∷ []) → v.rank ≡ w.rank → RowsAt (rank_by version w.rank) calls call rows
+pub walks_more : (version : ℕ) (w v : WalkState) (calls : List Call) (call : Call) (given : List Batch) (batch : Batch) (rows : List Finding) → Knows version v (calls ++ call ∷ []) → v.rank ≡ w.rank → RowsAt (rank_by version w.rank) calls call rows
     → rows_of batch.entries ≡ rows → batch.rank ≡ (rank_by version w.rank).rank → batch.last ≡ false → Walks version w calls given → Walks version v (calls ++ call ∷ []) (given ++ batch ∷ [])
 walks_more version w v calls call given batch rows knows same at are rank_is goes_on walks =
     let r = rank_by version w.rank in
@@ -197,21 +211,40 @@ walks_more version w v calls call given batch rows knows same at are rank_is goe
 
 -- ---- the same of a walk whose fields tell its state
 
-pub rows_seen : (version : ℕ) (w x : WalkState) → w ≡ x → (calls : List Call) (call : Call) (is ends : Bool) (z a b d : List Finding) → z ≡ [] → Knows x calls → is ≡ is_finalize call → ends ≡ is && is_none w.finalize
-    → Adds z a (FrameRows (rank_by version w.rank).rank w.number w.init w.finalize call) → Adds a b (ArgumentRows (rank_by version w.rank).rank w.number (rank_by version w.rank).size call)
-    → (Stands taken_clear w.slots calls → Adds b d (LeakRowsAt (rank_by version w.rank).rank w.number ends calls)) → Rises by_all d → RowsAt (rank_by version x.rank) calls call d
-rows_seen version w x e calls call is ends z a b d none knows f g frames arguments leaks rises =
-    let k : Knows w calls = subst (λ (v : WalkState). Knows v calls) (sym e) knows in
+-- what the rules of arguments add is what is known to be broken
+arguments_told : (version : ℕ) (w : WalkState) (calls : List Call) (call : Call) (at : Place) (a b : List Finding) → Knows version w calls → at.rank ≡ w.handles.rank → at.call ≡ w.number
+    → AddsBreaches at a b (argument_breaches (facts_in w.handles) (λ n. start_in w.handles.lives n) at.call call.body) → Adds a b (ArgumentRows (rank_by version w.rank) calls call)
+arguments_told version w calls call at a b knows rank number adds =
+    let r = rank_by version w.rank in
+    let bs = breaches_are r w.handles calls call at.call knows.handles (number ∙ knows.number) in
+    let there : at ≡ place_behind r calls = λ i. record { rank = (rank ∙ knows.handles.rank_is) i; call = (number ∙ knows.number) i } in
+    subst (λ (p : Place). Adds a b (IsBreach p (breaches_at r calls call))) there (subst (λ (xs : List Breach). Adds a b (IsBreach at xs)) bs adds.exact)
+
+pub rows_seen : (version : ℕ) (w x : WalkState) → w ≡ x → (calls : List Call) (call : Call) (at : Place) (is ends : Bool) (z a b d : List Finding) → z ≡ [] → Knows version x calls → is ≡ is_finalize call → ends ≡ is && is_none w.finalize
+    → at.rank ≡ w.handles.rank → at.call ≡ w.number → w.rank.rank ≡ w.handles.rank
+    → Adds z a (FrameRows at.rank at.call w.init w.finalize call) → AddsBreaches at a b (argument_breaches (facts_in w.handles) (λ n. start_in w.handles.lives n) at.call call.body)
+    → ((is_clear : Clearness) → Stands is_clear w.handles.lives calls → Adds b d (LeakRowsAt at.rank at.call ends calls)) → Rises by_all d → RowsAt (rank_by version x.rank) calls call d
+rows_seen version w x e calls call at is ends z a b d none knows f g rank number own frames arguments leaks rises =
+    let k : Knows version w calls = subst (λ (v : WalkState). Knows version v calls) (sym e) knows in
+    let r = rank_by version w.rank in
+    let here : at.rank ≡ r.rank = rank ∙ sym own in
     subst (λ (v : WalkState). RowsAt (rank_by version v.rank) calls call d) e
     (rows_known version w calls call ends a b d k (g ∙ ap (λ (b : Bool). b && is_none w.finalize) f)
-    (subst (λ (y : List Finding). Adds y a (FrameRows (rank_by version w.rank).rank w.number w.init w.finalize call)) none frames) arguments (leaks k.lives) rises)
+    (subst (λ (n : ℕ). Adds [] a (FrameRows r.rank n w.init w.finalize call)) number
+    (subst (λ (n : ℕ). Adds [] a (FrameRows n at.call w.init w.finalize call)) here
+    (subst (λ (y : List Finding). Adds y a (FrameRows at.rank at.call w.init w.finalize call)) none frames)))
+    (arguments_told version w calls call at a b k rank number arguments)
+    (subst (λ (n : ℕ). Adds b d (LeakRowsAt r.rank n ends calls)) number
+    (subst (λ (n : ℕ). Adds b d (LeakRowsAt n at.call ends calls)) here (leaks (clear_behind r) k.handles.lives))) rises)
 
-pub knows_seen : (w x v : WalkState) → w ≡ x → (calls : List Call) (call : Call) (i f : Bool) → Knows x calls → i ≡ is_init call → f ≡ is_finalize call → v.number ≡ w.number + 1 → v.init ≡ or_then w.init (only_if i w.number)
+pub knows_seen : (version : ℕ) (w x v : WalkState) → w ≡ x → (calls : List Call) (call : Call) (i f : Bool) → Knows version x calls → i ≡ is_init call → f ≡ is_finalize call → v.number ≡ w.number + 1 → v.init ≡ or_then w.init (only_if i w.number)
     → v.finalize ≡ or_then w.finalize (only_if f w.number) → v.returned ≡ call.returned
-    → (length calls ≡ w.number → TellsClear taken_clear calls call true → Stands taken_clear w.slots calls → Stands taken_clear v.slots (calls ++ call ∷ [])) → Knows v (calls ++ call ∷ [])
-knows_seen w x v e calls call i f knows is fs n init finalize returned stands =
-    let k : Knows w calls = subst (λ (u : WalkState). Knows u calls) (sym e) knows in
-    knows_next w v calls call k n (init ∙ ap (λ (b : Bool). or_then w.init (only_if b w.number)) is) (finalize ∙ ap (λ (b : Bool). or_then w.finalize (only_if b w.number)) fs) returned (stands (sym k.number) (λ e. refl) k.lives)
+    → ((r : Rank) → length calls ≡ w.number → HandlesStand r w.handles calls → HandlesStand r v.handles (calls ++ call ∷ [])) → v.rank ≡ w.rank → Knows version v (calls ++ call ∷ [])
+knows_seen version w x v e calls call i f knows is fs n init finalize returned stands same =
+    let k : Knows version w calls = subst (λ (u : WalkState). Knows version u calls) (sym e) knows in
+    let handles = stands (rank_by version w.rank) (sym k.number) k.handles in
+    knows_next version w v calls call k n (init ∙ ap (λ (b : Bool). or_then w.init (only_if b w.number)) is) (finalize ∙ ap (λ (b : Bool). or_then w.finalize (only_if b w.number)) fs) returned
+    (subst (λ (t : RankTold). HandlesStand (rank_by version t) v.handles (calls ++ call ∷ [])) (sym same) handles)
 
 -- ---- the end
 
@@ -236,9 +269,9 @@ whole_from r calls f is = record {
       ∙ is.gives;
 }
 
-pub end_seen : (version : ℕ) (w x : WalkState) → w ≡ x → (calls : List Call) (z a : List Finding) → z ≡ [] → Knows x calls → Adds z a (IsOfRule (rank_by version w.rank).rank w.number I3 (at_part 0 (missing w.returned w.finalize))) → Rises by_all a → RowsAtEnd (rank_by version x.rank) calls a
+pub end_seen : (version : ℕ) (w x : WalkState) → w ≡ x → (calls : List Call) (z a : List Finding) → z ≡ [] → Knows version x calls → Adds z a (IsOfRule (rank_by version w.rank).rank w.number I3 (at_part 0 (missing w.returned w.finalize))) → Rises by_all a → RowsAtEnd (rank_by version x.rank) calls a
 end_seen version w x e calls z a none knows adds rises =
-    let k : Knows w calls = subst (λ (v : WalkState). Knows v calls) (sym e) knows in
+    let k : Knows version w calls = subst (λ (v : WalkState). Knows version v calls) (sym e) knows in
     let r = rank_by version w.rank in
     let all : Adds [] a (IsOfRule r.rank (length calls) I3 (at_part 0 (missing (ends_returned calls) (first_finalize calls)))) =
     subst (λ (y : List Finding). Adds y a (IsOfRule r.rank (length calls) I3 (at_part 0 (missing (ends_returned calls) (first_finalize calls))))) none

@@ -6,15 +6,15 @@ use Rattle.must_call.specs.declared.life.Life.{Life}
 use Rattle.must_call.specs.declared.life.Life.TheVariants.{Live}
 use Rattle.must_call.specs.declared.call.Call.{Call}
 use Rattle.must_find.specs.declared.rule.Rule.{Rule}
-use Rattle.must_find.specs.declared.rule.Rule.TheVariants.{I1, I2, A1, A2, L1, L2, L3, L4, L5}
+use Rattle.must_find.specs.declared.rule.Rule.TheVariants.{I1, I2, L1, L2, L3, L4, L5}
 use Rattle.must_find.specs.declared.finding.Finding.{Finding}
 use Rattle.must_base.specs.Listing.{Has, Rises}
 use Rattle.must_find.specs.Order.{by_all}
 use Rattle.must_rules.specs.Rank.{Rank}
-use Rattle.must_rules.specs.Local.{IsBehind, IsWhole}
+use Rattle.must_rules.specs.Local.{IsBehind, IsWhole, breaches_at}
 use Rattle.must_rules.specs.Answer.{Answer, at_part}
-use Rattle.must_rules.specs.Counts.{count_below_zero}
-use Rattle.must_rules.specs.Peers.{peer_outside}
+use Rattle.must_rules.specs.Breaches.{IsBreach}
+use Rattle.must_rules.specs.WrongLaws.{place_behind}
 use Rattle.must_rules.specs.Frames.{is_init, init_answer, seeing}
 use Rattle.must_rules.specs.Lives.{open_handles}
 use Rattle.must_rules.specs.Leaks.{leak}
@@ -30,9 +30,9 @@ pub record IsOfRule (rank call : ℕ) (rule : Rule) (answers : ℕ → Option An
 abbrev pub FrameRows : ℕ → ℕ → Option ℕ → Option ℕ → Call → Finding → Type 0
 FrameRows rank k init finalize call f = IsOfRule rank k I1 (at_part 0 (init_answer rank (is_init call) init)) f ⊎ IsOfRule rank k I2 (at_part 0 (seeing rank finalize)) f
 
--- A1 and A2
-abbrev pub ArgumentRows : ℕ → ℕ → ℕ → Call → Finding → Type 0
-ArgumentRows rank k size call f = IsOfRule rank k A1 (at_part 0 (count_below_zero call)) f ⊎ IsOfRule rank k A2 (at_part 0 (peer_outside size call)) f
+-- A1 to A7 and H1 to H5
+abbrev pub ArgumentRows : Rank → List Call → Call → Finding → Type 0
+ArgumentRows r calls call f = IsBreach (place_behind r calls) (breaches_at r calls call) f
 
 -- a handle, where it is live
 abbrev pub open_one : ℕ → Life → Option (ℕ × ℕ)

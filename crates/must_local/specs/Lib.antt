@@ -2,4 +2,9 @@ pub mod Entries
 pub mod Distinct
 pub mod DistinctLaws
 pub mod Adding
+pub mod Counted
+pub mod Objects
+pub mod Bumps
+pub mod HandlesKnown
+pub mod Seen
 pub mod Walks

@@ -1,5 +1,5 @@
 -- What a walk keeps, and the calls and batches that it stands for.
-use Rattle.std.specs.Prelude.{◌≡◌, ◌↔◌, ℕ, ℤ, Bool, true, false, List, [], ◌∷◌, ◌++◌, Option, length}
+use Rattle.std.specs.Prelude.{◌≡◌, ◌↔◌, ℕ, ◌+◌, ◌<◌, ◌^◌, ℤ, Bool, true, false, List, [], ◌∷◌, ◌++◌, Option, length}
 use Rattle.std.specs.List.{AllByRecursion, flat_map}
 use Rattle.must_call.specs.declared.call.Call.{Call}
 use Rattle.must_find.specs.declared.finding.Finding.{Finding}
@@ -8,9 +8,12 @@ use Rattle.must_rules.specs.Rank.{Rank}
 use Rattle.must_local.specs.Distinct.{AreDistinct}
 use Rattle.must_rules.specs.Frames.{first_init, first_finalize, ends_returned}
 use Rattle.must_rules.specs.Local.{IsHere, IsLocal}
-use Rattle.must_rules.specs.Starts.{Clearness}
-use Rattle.must_handle.specs.declared.slot.Slot.{Slot}
-use Rattle.must_handle.specs.Slots.{Stands}
+use Rattle.must_local.specs.declared.handles.Handles.{Handles}
+use Rattle.must_call.specs.Handles.{handles_of}
+use Rattle.must_rules.specs.Communicators.{derived_of}
+use Rattle.must_handle.specs.Changes.{IsNext}
+use Rattle.must_local.specs.Objects.{HasMembers}
+use Rattle.must_local.specs.HandlesKnown.{HandlesStand}
 use Rattle.must_local.specs.declared.batch.Batch.{Batch}
 use Rattle.must_local.specs.Entries.{rows_of}
 
@@ -24,26 +27,30 @@ pub record RankTold : Type 0 where
 abbrev pub rank_by : ℕ → RankTold → Rank
 rank_by version told = record { rank = told.rank; size = told.size; version = version; tag_ub = told.tag_ub }
 
--- the rank, how many calls were stepped, the first Init and Finalize, whether the last call returned, and the handles
+-- the rank, how many calls were stepped, the first Init and Finalize, whether the last call returned, and what is known of handles
 pub record WalkState : Type 0 where
   pub rank : RankTold
   pub number : ℕ
   pub init : Option ℕ
   pub finalize : Option ℕ
   pub returned : Bool
-  pub slots : List Slot
+  pub handles : Handles
 
--- no rule so far asks which calls are clear, so all are taken to be
-abbrev pub taken_clear : Clearness
-taken_clear earlier call = true
+-- a walk may take this call next: the handle that it makes, if any, has the next number, and the communicator members that it may
+-- have; it names few handles, and few calls were taken
+pub record MayStep (w : WalkState) (call : Call) : Type 0 where
+  pub next : IsNext w.handles.lives call
+  pub few : w.number + 1 < 2 ^ 32
+  pub members : HasMembers (derived_of call.body)
+  pub short : length (handles_of call.body) < 2 ^ 32
 
 -- the tables tell what these calls did
-pub record Knows (w : WalkState) (calls : List Call) : Type 0 where
+pub record Knows (version : ℕ) (w : WalkState) (calls : List Call) : Type 0 where
   pub number : w.number ≡ length calls
   pub init : w.init ≡ first_init calls
   pub finalize : w.finalize ≡ first_finalize calls
   pub returned : w.returned ≡ ends_returned calls
-  pub lives : Stands taken_clear w.slots calls
+  pub handles : HandlesStand (rank_by version w.rank) w.handles calls
 
 -- the local rows of some batches
 abbrev pub all_rows : List Batch → List Finding
@@ -56,7 +63,7 @@ pub record IsMiddle (rank : ℕ) (b : Batch) : Type 0 where
 
 -- the walk has taken these calls and given these batches
 pub record Walks (version : ℕ) (w : WalkState) (calls : List Call) (given : List Batch) : Type 0 where
-  pub knows : Knows w calls
+  pub knows : Knows version w calls
   pub once : AreDistinct (all_rows given)
   pub rows : (f : Finding) → Has (all_rows given) f ↔ IsHere (rank_by version w.rank) calls f
   pub middle : AllByRecursion (IsMiddle (rank_by version w.rank).rank) given

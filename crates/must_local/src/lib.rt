@@ -5,10 +5,16 @@
 //! takes five passes over the handles that were made. Memory is in proportion to these, and not to the calls.
 #![tactic(auto)]
 
-mod arguments;
 mod batch;
+mod comm;
+mod derived;
 mod fault;
+mod groups;
+mod handles;
+mod known;
 mod leaks;
+mod members;
+mod objects;
 mod rows;
 #[cfg(test)]
 mod tests;

@@ -6,21 +6,27 @@ ghost use Rattle.must_find.specs.declared.finding.Finding.{Finding};
 ghost use Rattle.must_base.specs.Listing.{Has, Rises};
 ghost use Rattle.must_find.specs.Order.{by_all};
 ghost use Rattle.must_rules.specs.Local.{IsBehind, IsWhole};
+ghost use Rattle.must_call.specs.Handles.{handles_of};
+ghost use Rattle.must_rules.specs.Clear.{is_clear};
+ghost use Rattle.must_rules.specs.Communicators.{derived_of};
 ghost use Rattle.must_handle.specs.Changes.{IsNext};
+ghost use Rattle.must_local.specs.Objects.{HasMembers};
+ghost use Rattle.must_local.specs.HandlesKnown.{facts_in};
 ghost use Rattle.must_local.specs.declared.batch.Batch.{Batch};
 ghost use Rattle.must_rules.specs.Search.{or_then, only_if};
 ghost use Rattle.must_local.specs.Adding.{RowsAt, RowsAtEnd};
-ghost use Rattle.must_local.specs.Walks.{rank_by, Knows, Walks, GivesAll};
+ghost use Rattle.must_local.specs.Walks.{rank_by, MayStep, Knows, Walks, GivesAll};
 
-use crate::arguments::add_arguments;
 use crate::batch::{Batch, row_entries};
 use crate::fault::WalkFault;
+use crate::handles::Handles;
 use crate::leaks::add_leaks_at;
+use crate::members::are_members;
 use crate::rows::{add_frames, add_missing, is_finalize_call, is_init_call};
+use must_args::check_args;
 use must_base::NoMemory;
 use must_call::{Call, Place};
 use must_find::Findings;
-use must_handle::Lives;
 use std::alloc::Global;
 use std::marker::Model;
 
@@ -28,14 +34,12 @@ use std::marker::Model;
 #[derive(Drop)]
 pub struct RankWalk {
     alloc: Global,
-    rank: u32,
     size: u32,
-    tag_ub: i32,
     number: u32,
     init: Option<u32>,
     finalize: Option<u32>,
     returned: bool,
-    lives: Lives,
+    handles: Handles,
 }
 
 impl Model for RankWalk {
@@ -43,7 +47,7 @@ impl Model for RankWalk {
 
     ghost Value = { WalkState };
 
-    ghost view = { λ w. record { rank = record { rank = w.rank; size = w.size; tag_ub = w.tag_ub }; number = w.number; init = w.init; finalize = w.finalize; returned = w.returned; slots = w.lives } };
+    ghost view = { λ w. record { rank = record { rank = w.handles.rank; size = w.size; tag_ub = w.handles.tag_ub }; number = w.number; init = w.init; finalize = w.finalize; returned = w.returned; handles = w.handles } };
 }
 
 /// The first of two calls, where the earlier is there.
@@ -63,53 +67,75 @@ fn ends_here(is_finalize: bool, first: Option<u32>) -> bool
     is_finalize && first.is_none()
 }
 
+/// What the rules that look at one rank alone say of a call.
+#[derive(Drop)]
+struct Judged {
+    rows: Findings,
+    clear: bool,
+}
+
+/// Whether the communicator that a call makes, if any, has members that it may have.
+fn has_members(call: &Call) -> bool
+    ensures { result ≡ true → HasMembers (derived_of call.now.body) }
+{
+    match call.made_comm() {
+        Some(made) => are_members(made.members.items()),
+        None => true,
+    }
+}
+
 impl RankWalk {
     /// A walk that has taken no call.
     pub fn new(alloc: Global, rank: u32, size: u32, tag_ub: i32) -> Result<RankWalk, NoMemory>
         ensures walks { IfOk result (λ walk. (version : ℕ) → Walks version walk [] []) }
         ensures rank { IfOk result (λ walk. walk.rank ≡ record { rank = rank; size = size; tag_ub = tag_ub }) }
     {
-        let lives = Lives::new(alloc)?;
+        let handles = Handles::new(alloc, rank, size, tag_ub)?;
         Ok(RankWalk {
             alloc,
-            rank,
             size,
-            tag_ub,
             number: 0,
             init: None,
             finalize: None,
             returned: true,
-            lives,
+            handles,
         })
     }
 
-    /// The local rows of the next call.
-    fn rows_at(&self, call: &Call) -> Result<Findings, NoMemory>
-        ensures { (version : ℕ) (calls : List Call) → Knows self.now calls → IfOk result (λ rows. RowsAt (rank_by version self.now.rank) calls call.now rows) }
+    /// The local rows of the next call, and whether it is clear.
+    fn judge(&self, call: &Call) -> Result<Judged, NoMemory>
+        requires { length (handles_of call.now.body) < 2 ^ 32 }
+        ensures rows { (version : ℕ) (calls : List Call) → Knows version self.now calls → IfOk result (λ judged. RowsAt (rank_by version self.now.rank) calls call.now judged.rows) }
+        ensures clear { IfOk result (λ judged. judged.clear ≡ is_clear (facts_in self.now.handles) call.now.body) }
     {
         let mut rows = Findings::new(self.alloc);
         let at = Place {
-            rank: self.rank,
+            rank: self.handles.rank,
             call: self.number,
         };
         add_frames(&mut rows, at, self.init, self.finalize, call)?;
-        add_arguments(&mut rows, at, self.size, call)?;
+        let usable = check_args(self.alloc, &self.handles, at, call, &mut rows)?;
         let ends = ends_here(is_finalize_call(call), self.finalize);
-        add_leaks_at(&mut rows, at, ends, &self.lives)?;
+        add_leaks_at(&mut rows, at, ends, &self.handles.lives)?;
         let _ = rows.as_slice();
-        Ok(rows)
+        Ok(Judged {
+            rows,
+            clear: usable.clear,
+        })
     }
 
-    /// Takes the next call into the tables.
-    fn take(&mut self, call: &Call) -> Result<(), NoMemory>
-        requires next { IsNext self.old.slots call.now }
+    /// Takes the next call into the tables; `clear` says whether it is.
+    fn take(&mut self, call: &Call, clear: bool) -> Result<(), WalkFault>
+        requires next { IsNext self.old.handles.lives call.now }
         requires few { self.old.number + 1 < 2 ^ 32 }
-        ensures knows { OnOk result ((calls : List Call) → Knows self.old calls → Knows self.new (calls ++ call.now ∷ [])) }
+        requires members { HasMembers (derived_of call.now.body) }
+        requires short { length (handles_of call.now.body) < 2 ^ 32 }
+        requires clear { clear ≡ is_clear (facts_in self.old.handles) call.now.body }
+        ensures knows { OnOk result ((version : ℕ) (calls : List Call) → Knows version self.old calls → Knows version self.new (calls ++ call.now ∷ [])) }
         ensures rank { OnOk result (self.new.rank ≡ self.old.rank) }
     {
         let number = self.number;
-        // No rule so far asks which calls are clear or when a request was started.
-        self.lives.apply(number, call, true)?;
+        self.handles.take(self.alloc, number, call, clear)?;
         self.init = first_of(self.init, is_init_call(call), number);
         self.finalize = first_of(self.finalize, is_finalize_call(call), number);
         self.returned = call.returned;
@@ -117,26 +143,27 @@ impl RankWalk {
         Ok(())
     }
 
-    /// Whether `step` may take this call: the handle that it makes, if any, has the next number, and fewer than
-    /// 2^32 - 1 calls were taken.
+    /// Whether `step` may take this call: the handle that it makes, if any, has the next number; the communicator, at most
+    /// 1,024 distinct members below that; it names fewer than 2^32 handles, and fewer than 2^32 - 1 calls were taken.
     pub fn may_step(&self, call: &Call) -> bool
-        ensures next { result ≡ true → IsNext self.now.slots call.now }
-        ensures few { result ≡ true → self.now.number + 1 < 2 ^ 32 }
+        ensures { result ≡ true → MayStep self.now call.now }
     {
-        self.number < u32::MAX && self.lives.is_next(call)
+        self.number < u32::MAX
+            && self.handles.lives.is_next(call)
+            && has_members(call)
+            && call.handle(u32::MAX).is_none()
     }
 
     /// Takes the next call, and gives its batch.
     pub fn step(&mut self, call: &Call) -> Result<Batch, WalkFault>
-        requires next { IsNext self.old.slots call.now }
-        requires few { self.old.number + 1 < 2 ^ 32 }
+        requires { MayStep self.old call.now }
         ensures walks { IfOk result (λ batch. (version : ℕ) (calls : List Call) (given : List Batch) → Walks version self.old calls given → Walks version self.new (calls ++ call.now ∷ []) (given ++ batch ∷ [])) }
         ensures rank { OnOk result (self.new.rank ≡ self.old.rank) }
     {
-        let rows = self.rows_at(call)?;
-        let entries = row_entries(self.alloc, rows.as_slice())?;
-        let rank = self.rank;
-        self.take(call)?;
+        let judged = self.judge(call)?;
+        let entries = row_entries(self.alloc, judged.rows.as_slice())?;
+        let rank = self.handles.rank;
+        self.take(call, judged.clear)?;
         Ok(Batch {
             rank,
             entries,
@@ -146,11 +173,11 @@ impl RankWalk {
 
     /// The rows that stand at the end of the calls.
     fn last_rows(&self) -> Result<Findings, NoMemory>
-        ensures { (version : ℕ) (calls : List Call) → Knows self.now calls → IfOk result (λ rows. RowsAtEnd (rank_by version self.now.rank) calls rows) }
+        ensures { (version : ℕ) (calls : List Call) → Knows version self.now calls → IfOk result (λ rows. RowsAtEnd (rank_by version self.now.rank) calls rows) }
     {
         let mut rows = Findings::new(self.alloc);
         let at = Place {
-            rank: self.rank,
+            rank: self.handles.rank,
             call: self.number,
         };
         add_missing(&mut rows, at, self.returned, self.finalize)?;
@@ -165,7 +192,7 @@ impl RankWalk {
         let rows = self.last_rows()?;
         let entries = row_entries(self.alloc, rows.as_slice())?;
         Ok(Batch {
-            rank: self.rank,
+            rank: self.handles.rank,
             entries,
             last: true,
         })

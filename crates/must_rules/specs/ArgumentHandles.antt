@@ -1,6 +1,6 @@
 -- Rules H1 to H5: handle arguments that are wrong, by what became of the handle (MPI 3.1 sections 2.5.1, 3.7.3, 4.1.9 and
 -- 6.4.3). The part is the number of the argument, and the value is the handle.
-use Rattle.std.specs.Prelude.{ℕ, suc, ℤ, pos, Bool, true, false, not, ◌&&◌, List, [], ◌∷◌, ◌++◌, Option, Some, None, nat_eq, if◌then◌else◌}
+use Rattle.std.specs.Prelude.{ℕ, suc, pos, Bool, true, false, not, ◌&&◌, List, [], ◌∷◌, ◌++◌, Option, Some, None, nat_eq, if◌then◌else◌}
 use Rattle.std.specs.Set.{is_member}
 use Rattle.must_call.specs.declared.constants.TheConstants.{NULL_HANDLE}
 use Rattle.must_call.specs.declared.kind.Kind.{Kind}
@@ -87,12 +87,16 @@ abbrev pub active : (here : ℕ) → (again : Bool) → (part h : ℕ) → Optio
 active here again part h (Some start) = breach_with H5 part start (pos h) ∷ []
 active here again part h None = if again then breach_with H5 part here (pos h) ∷ [] else []
 
+-- the call that started an active request; none where the number isn't an active request
+abbrev pub StartOf : Type 0
+StartOf = ℕ → Option ℕ
+
 -- a clear call starts each request that it names and that isn't active yet, in the order of its list: of these a live
 -- request is persistent, and a clear call names no other. The requests before are given
-abbrev pub active_from : Facts → (here : ℕ) → (clear : Bool) → (before : List ℕ) → (part : ℕ) → List ℕ → List Breach
-active_from facts here clear before part [] = []
-active_from facts here clear before part (h ∷ hs) = active here (clear && is_member nat_eq before h) part h (facts.start_of h) ++ active_from facts here clear (before ++ h ∷ []) (suc part) hs
+abbrev pub active_from : StartOf → (here : ℕ) → (clear : Bool) → (before : List ℕ) → (part : ℕ) → List ℕ → List Breach
+active_from start_of here clear before part [] = []
+active_from start_of here clear before part (h ∷ hs) = active here (clear && is_member nat_eq before h) part h (start_of h) ++ active_from start_of here clear (before ++ h ∷ []) (suc part) hs
 
 -- here is the number of the call, and clear says whether it is
-abbrev pub active_requests : Facts → (here : ℕ) → (clear : Bool) → Body → List Breach
-active_requests facts here clear b = active_from facts here clear [] 0 (started_of b)
+abbrev pub active_requests : StartOf → (here : ℕ) → (clear : Bool) → Body → List Breach
+active_requests start_of here clear b = active_from start_of here clear [] 0 (started_of b)

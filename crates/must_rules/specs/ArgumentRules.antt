@@ -1,5 +1,5 @@
 -- Rules A1 to A7: arguments that are wrong. Each is asked of the significant fields of a call.
-use Rattle.std.specs.Prelude.{ℕ, ℤ, pos, negsuc, ◌-ℤ◌, Bool, true, false, not, ◌&&◌, ◌||◌, List, [], ◌∷◌, map, length, take, Option, Some, None, option_map, position, find, int_lt, int_le, nat_eq, if◌then◌else◌}
+use Rattle.std.specs.Prelude.{ℕ, ℤ, pos, ◌-ℤ◌, Bool, not, ◌&&◌, ◌||◌, List, [], ◌∷◌, map, length, take, Option, Some, None, option_map, position, find, int_lt, int_le, nat_eq, if◌then◌else◌}
 use Rattle.std.specs.Ordering.{int_eq}
 use Rattle.std.specs.Set.{is_member}
 use Rattle.must_call.specs.declared.constants.TheConstants.{PROC_NULL, ANY_SOURCE, ANY_TAG, UNDEFINED}
@@ -8,7 +8,7 @@ use Rattle.must_call.specs.declared.items.Dim.{Dim}
 use Rattle.must_call.specs.declared.items.IndexItem.{IndexItem}
 use Rattle.must_call.specs.declared.items.HindexItem.{HindexItem}
 use Rattle.must_call.specs.declared.items.StructBlock.{StructBlock}
-use Rattle.must_call.specs.declared.field.Side.TheVariants.{Send, Receive, Both}
+use Rattle.must_call.specs.declared.field.Side.TheVariants.{Receive}
 use Rattle.must_call.specs.declared.field.Int.TheVariants as int
 use Rattle.must_call.specs.declared.field.Ints.TheVariants as ints
 use Rattle.must_call.specs.declared.field.Item.TheVariants as item

@@ -1,7 +1,6 @@
 -- What is found at a place, and what stands in a list of breaches.
-use Rattle.std.proofs.Common.{◌≡◌, ℕ, Bool, true, false, cond, ◌&&◌, List, [], ◌∷◌, Option, Some, None, refl, sym, ap, subst, ◌∙◌, inl, inr, nat_eq, eqb-true, eq-eqb, Equal}
+use Rattle.std.proofs.Common.{◌≡◌, ℕ, Bool, true, false, cond, ◌&&◌, List, [], ◌∷◌, Some, None, refl, sym, ap, ◌∙◌, inl, inr, nat_eq, eqb-true, eq-eqb, Equal}
 use Rattle.std.specs.Prelude.{find}
-use Rattle.std.specs.Ordering.{nat_cmp}
 use Rattle.std.specs.Cmp.{nat_cmp_is}
 use Rattle.must_find.specs.declared.rule.Rule.{Rule}
 use Rattle.must_find.specs.Rules.{rule_place}

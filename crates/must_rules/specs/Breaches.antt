@@ -1,11 +1,11 @@
 -- What the rules of arguments find at a call, as a list: a rule may be broken at several parts.
-use Rattle.std.specs.Prelude.{◌≡◌, ◌↔◌, ◌⊎◌, ℕ, suc, ◌+◌, ℤ, pos, Bool, true, false, ◌&&◌, ◌||◌, List, [], ◌∷◌, ◌++◌, length, Option, Some, None, find, nat_eq, if◌then◌else◌}
+use Rattle.std.specs.Prelude.{◌≡◌, ◌↔◌, ◌⊎◌, ℕ, ◌+◌, ℤ, Bool, true, false, ◌&&◌, ◌||◌, List, [], ◌∷◌, ◌++◌, length, Option, Some, None, find, nat_eq, if◌then◌else◌}
 use Rattle.must_call.specs.declared.place.Place.{Place}
 use Rattle.must_call.specs.declared.field.Side.{Side}
-use Rattle.must_call.specs.declared.field.Side.TheVariants.{Send, Receive, Both}
+use Rattle.must_call.specs.declared.field.Side.TheVariants.{Receive}
 use Rattle.must_call.specs.declared.field.Field.{Field}
 use Rattle.must_call.specs.declared.body.Body.{Body}
-use Rattle.must_call.specs.Values.{Value, Typed}
+use Rattle.must_call.specs.Values.{Typed}
 use Rattle.must_call.specs.Bodies.{inputs_of}
 use Rattle.must_call.specs.Handles.{typed_handles}
 use Rattle.must_find.specs.declared.rule.Rule.{Rule}

@@ -1,10 +1,9 @@
 -- Which rules of arguments a call breaks, and which calls break none (docs/RULES.md).
 use Rattle.std.specs.Prelude.{ℕ, ℤ, Bool, true, false, List, [], ◌∷◌, ◌++◌, Option, option_map}
-use Rattle.must_call.specs.declared.place.Place.{Place}
 use Rattle.must_call.specs.declared.kind.Kind.{Kind}
 use Rattle.must_call.specs.declared.field.Field.{Field}
 use Rattle.must_call.specs.declared.body.Body.{Body}
-use Rattle.must_call.specs.Values.{Value, Typed}
+use Rattle.must_call.specs.Values.{Typed}
 use Rattle.must_call.specs.Kinds.{kind_of}
 use Rattle.must_call.specs.Bodies.{inputs_of}
 use Rattle.must_call.specs.Handles.{typed_handles}
@@ -13,7 +12,7 @@ use Rattle.must_rules.specs.Facts.{Facts, size_of_comm}
 use Rattle.must_rules.specs.Significant.{comm_of, significant_in}
 use Rattle.must_rules.specs.Breaches.{Breach, told, part_in, asked_from}
 use Rattle.must_rules.specs.ArgumentRules.{negative_count, peer_outside, tag_outside, root_outside, wrong_block, wrong_color, wrong_ranks}
-use Rattle.must_rules.specs.ArgumentHandles.{is_of_buffer, wrong_handles, active_requests}
+use Rattle.must_rules.specs.ArgumentHandles.{StartOf, is_of_buffer, wrong_handles, active_requests}
 
 -- rules A1 to A5 and A7 at a field: n is how many members the call's communicator has, where it is live and sound
 abbrev pub wrong_value : ℤ → Option ℕ → (part : ℕ) → Typed → List Breach
@@ -44,5 +43,5 @@ abbrev pub is_clear : Facts → Body → Bool
 is_clear facts b = is_nil (wrong_arguments facts b)
 
 -- rules A1 to A7 and H1 to H5 at a call with this number
-abbrev pub argument_breaches : Facts → ℕ → Body → List Breach
-argument_breaches facts here b = wrong_arguments facts b ++ active_requests facts here (is_clear facts b) b
+abbrev pub argument_breaches : Facts → StartOf → ℕ → Body → List Breach
+argument_breaches facts start_of here b = wrong_arguments facts b ++ active_requests start_of here (is_clear facts b) b

@@ -1,4 +1,5 @@
--- What a rank knows of its handles at a call: what its earlier calls made of them.
+-- What a rank knows of its handles at a call: what its earlier calls made of them. The rules that say which calls are clear
+-- ask no more than this.
 use Rattle.std.specs.Prelude.{ℕ, ℤ, Bool, List, length, Option}
 use Rattle.must_call.specs.declared.class.Class.{Class}
 use Rattle.must_call.specs.declared.life.Life.{Life}
@@ -27,6 +28,3 @@ pub record Facts : Type 0 where
   pub comm : ℕ → Option Comm
   -- the world ranks of a group; none where it isn't live and sound
   pub group : ℕ → Option (List ℕ)
-  pub sound_type : ℕ → Bool
-  -- the call that started an active request; none where the number isn't an active request
-  pub start_of : ℕ → Option ℕ

@@ -1,8 +1,6 @@
 pub mod Run
 pub mod Streams
 pub mod Answer
-pub mod Counts
-pub mod Peers
 pub mod StreamRuns
 pub mod Search
 pub mod SearchLaws
@@ -30,3 +28,8 @@ pub mod ArgumentRules
 pub mod ArgumentHandles
 pub mod Clear
 pub mod UsableParts
+pub mod Communicators
+pub mod Known
+pub mod KnownLaws
+pub mod OnceLaws
+pub mod WrongLaws

@@ -21,6 +21,14 @@ next_life k makes ends (Live made) = if ends then Freed made k else Live made
 next_life k makes ends (Freed made freed) = Freed made freed
 next_life k makes ends Predefined = Predefined
 
+-- what was never made after a call was never made before it
+pub was_never : (k : ℕ) (m e : Bool) (l : Life) → next_life k m e l ≡ Never → l ≡ Never
+was_never k m e Never h = refl
+was_never k m true (Live made) h = let no : Freed made k ≡ Never = h in absurd cc
+was_never k m false (Live made) h = let no : Live made ≡ Never = h in absurd cc
+was_never k m e (Freed made freed) h = let no : Freed made freed ≡ Never = h in absurd cc
+was_never k m e Predefined h = let no : Predefined ≡ Never = h in absurd cc
+
 get_front : (xs ys : List Call) (i : ℕ) → i < length xs → slice_get (xs ++ ys) i ≡ slice_get xs i
 get_front [] ys i h = absurd (omega arith)
 get_front (x ∷ xs) ys zero h = refl

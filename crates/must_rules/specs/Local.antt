@@ -3,21 +3,40 @@ use Rattle.std.specs.Prelude.{◌≡◌, ℕ, ◌==◌, if◌then◌else◌, Lis
 use Rattle.must_call.specs.declared.class.Class.TheVariants.{Comm, Group, Datatype, Operation, Request}
 use Rattle.must_call.specs.declared.call.Call.{Call}
 use Rattle.must_find.specs.declared.rule.Rule.{Rule}
-use Rattle.must_find.specs.declared.rule.Rule.TheVariants.{I1, I2, I3, A1, A2, L1, L2, L3, L4, L5}
+use Rattle.must_find.specs.declared.rule.Rule.TheVariants.{I1, I2, I3, A1, A2, A3, A4, A5, A6, A7, H1, H2, H3, H4, H5, L1, L2, L3, L4, L5}
 use Rattle.must_find.specs.declared.finding.Finding.{Finding}
 use Rattle.must_rules.specs.Answer.{Answer, at_part}
 use Rattle.must_rules.specs.Rank.{Rank}
-use Rattle.must_rules.specs.Counts.{negative_count}
-use Rattle.must_rules.specs.Peers.{peer_out_of_range}
+use Rattle.must_rules.specs.Starts.{start_of}
+use Rattle.must_rules.specs.Breaches.{Breach, answer_at}
+use Rattle.must_rules.specs.Clear.{argument_breaches}
+use Rattle.must_rules.specs.Known.{facts_of, clear_behind}
 use Rattle.must_rules.specs.Frames.{outside_init, after_finalize, no_finalize}
 use Rattle.must_rules.specs.Leaks.{not_freed}
+
+-- rules A1 to A7 and H1 to H5 at a call, by what its rank knows of its handles
+unfoldable pub breaches_at : Rank → (earlier : List Call) → Call → List Breach
+breaches_at r earlier call = argument_breaches (facts_of r earlier) (start_of (clear_behind r) earlier) (length earlier) call.body
+
+abbrev pub wrong_argument : Rank → (earlier : List Call) → Call → Rule → (part : ℕ) → Option Answer
+wrong_argument r earlier call rule part = answer_at r.rank (breaches_at r earlier call) rule part
 
 -- what a rule finds at a call by looking at it and at the earlier calls of its rank
 abbrev pub finding_behind : Rank → (earlier : List Call) → Call → Rule → (part : ℕ) → Option Answer
 finding_behind r earlier call I1 part = at_part 0 (outside_init r earlier call) part
 finding_behind r earlier call I2 part = at_part 0 (after_finalize r earlier) part
-finding_behind r earlier call A1 part = negative_count call part
-finding_behind r earlier call A2 part = peer_out_of_range r.size call part
+finding_behind r earlier call A1 part = wrong_argument r earlier call A1 part
+finding_behind r earlier call A2 part = wrong_argument r earlier call A2 part
+finding_behind r earlier call A3 part = wrong_argument r earlier call A3 part
+finding_behind r earlier call A4 part = wrong_argument r earlier call A4 part
+finding_behind r earlier call A5 part = wrong_argument r earlier call A5 part
+finding_behind r earlier call A6 part = wrong_argument r earlier call A6 part
+finding_behind r earlier call A7 part = wrong_argument r earlier call A7 part
+finding_behind r earlier call H1 part = wrong_argument r earlier call H1 part
+finding_behind r earlier call H2 part = wrong_argument r earlier call H2 part
+finding_behind r earlier call H3 part = wrong_argument r earlier call H3 part
+finding_behind r earlier call H4 part = wrong_argument r earlier call H4 part
+finding_behind r earlier call H5 part = wrong_argument r earlier call H5 part
 finding_behind r earlier call L1 part = not_freed Datatype r earlier call part
 finding_behind r earlier call L2 part = not_freed Comm r earlier call part
 finding_behind r earlier call L3 part = not_freed Group r earlier call part

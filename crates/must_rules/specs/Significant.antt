@@ -1,6 +1,6 @@
 -- Which arguments of a call are significant: those that the standard gives a meaning at this rank (MPI 3.1 sections 5.2.2, 5.5 to
 -- 5.9 and 5.11, where arguments are "significant only at root", and where MPI_IN_PLACE makes arguments ignored).
-use Rattle.std.specs.Prelude.{ℕ, ℤ, pos, Bool, true, false, not, ◌&&◌, ◌||◌, List, [], ◌∷◌, length, Option, Some, None, int_le, int_lt, nat_eq, if◌then◌else◌}
+use Rattle.std.specs.Prelude.{ℕ, ℤ, pos, Bool, true, false, not, ◌&&◌, List, [], ◌∷◌, length, Option, Some, None, int_le, int_lt, nat_eq, if◌then◌else◌}
 use Rattle.std.specs.Ordering.{int_eq}
 use Rattle.must_call.specs.declared.kind.Kind.{Kind}
 use Rattle.must_call.specs.declared.kind.Kind.TheVariants as kind

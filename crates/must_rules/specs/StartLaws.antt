@@ -14,7 +14,7 @@ use Rattle.must_rules.specs.Search.{or_then, only_if}
 use Rattle.must_rules.specs.Making.{is_in, made_by, makes, frees, completes, persists, started_of}
 use Rattle.must_rules.specs.MakingLaws.{made_starts}
 use Rattle.must_rules.specs.Lives.{ends, life, is_kept}
-use Rattle.must_rules.specs.LifeLaws.{next_life, next_kept, life_more, kept_more, kept_never, life_first}
+use Rattle.must_rules.specs.LifeLaws.{next_life, next_kept, was_never, life_more, kept_more, kept_never, life_first}
 use Rattle.must_rules.specs.Starts.{Clearness, names_to_start, under_way_by, start_by, start_of, is_start_kind, TellsClear}
 
 -- the start after one more call, by what it does and by what was there
@@ -31,13 +31,6 @@ under_way_more is_clear calls call number =
     ap (λ (cs : List Call). under_way_by is_clear cs number) (reverse-append calls (call ∷ []))
     ∙ ap (λ (cs : List Call). cond (completes Request number call) None (or_then (under_way_by is_clear (reverse calls) number) (only_if (names_to_start is_clear cs call number && is_kept cs Request number) (length (reverse calls))))) (reverse-reverse calls)
     ∙ ap (λ n. cond (completes Request number call) None (or_then (under_way_by is_clear (reverse calls) number) (only_if (names_to_start is_clear calls call number && is_kept calls Request number) n))) (length-reverse calls)
-
-was_never : (k : ℕ) (m e : Bool) (l : Life) → next_life k m e l ≡ Never → l ≡ Never
-was_never k m e Never h = refl
-was_never k m true (Live made) h = let no : Freed made k ≡ Never = h in absurd cc
-was_never k m false (Live made) h = let no : Live made ≡ Never = h in absurd cc
-was_never k m e (Freed made freed) h = let no : Freed made freed ≡ Never = h in absurd cc
-was_never k m e Predefined h = let no : Predefined ≡ Never = h in absurd cc
 
 nothing_added : (b n : Bool) (o : Option ℕ) (p : Bool) (k : ℕ) → o ≡ None → p ≡ false → cond b None (or_then o (only_if (n && p) k)) ≡ None
 nothing_added true n o p k e f = refl

@@ -34,31 +34,32 @@ peer_in s (I32 int.Dest) z = if is_send s then Some z else None
 peer_in s (I32 int.Source) z = if is_receive s then Some z else None
 peer_in s _ _ = None
 
-abbrev pub is_sound : Facts → Option ℕ → Bool
-is_sound facts (Some h) = facts.sound_type h
-is_sound facts None = false
+-- the datatype is there, and sound
+abbrev pub is_sound : (ℕ → Bool) → Option ℕ → Bool
+is_sound sound_type (Some h) = sound_type h
+is_sound sound_type None = false
 
 abbrev pub is_proc_null : Option ℤ → Bool
 is_proc_null (Some z) = int_eq z PROC_NULL
 is_proc_null None = false
 
 -- a side whose type is sound and whose peer isn't MPI_PROC_NULL
-abbrev pub is_usable_side : Facts → List Typed → Side → Bool
-is_usable_side facts ts s = is_sound facts (first_told (type_in s) ts) && not (is_proc_null (first_told (peer_in s) ts))
+abbrev pub is_usable_side : (sound_type : ℕ → Bool) → List Typed → Side → Bool
+is_usable_side sound_type ts s = is_sound sound_type (first_told (type_in s) ts) && not (is_proc_null (first_told (peer_in s) ts))
 
 -- a significant buffer is a part of the call
-abbrev pub is_usable_buffer : Facts → Body → Field → Bool
-is_usable_buffer facts b (Buffer s) = significant_in facts b (Buffer s) && is_usable_side facts (inputs_of b) s
-is_usable_buffer facts b _ = false
+abbrev pub is_usable_buffer : Facts → (sound_type : ℕ → Bool) → Body → Field → Bool
+is_usable_buffer facts sound_type b (Buffer s) = significant_in facts b (Buffer s) && is_usable_side sound_type (inputs_of b) s
+is_usable_buffer facts sound_type b _ = false
 
-abbrev pub usable_among : Facts → Body → (part : ℕ) → List Typed → Bool
-usable_among facts b part [] = false
-usable_among facts b part (t ∷ ts) = (nat_eq (part_in b t.0) part && is_usable_buffer facts b t.0) || usable_among facts b part ts
+abbrev pub usable_among : Facts → (sound_type : ℕ → Bool) → Body → (part : ℕ) → List Typed → Bool
+usable_among facts sound_type b part [] = false
+usable_among facts sound_type b part (t ∷ ts) = (nat_eq (part_in b t.0) part && is_usable_buffer facts sound_type b t.0) || usable_among facts sound_type b part ts
 
 -- the part of a clear call on a live and sound communicator is usable
-abbrev pub is_usable : Facts → Body → (part : ℕ) → Bool
-is_usable facts b part = is_clear facts b && is_some (comm_of facts b) && usable_among facts b part (inputs_of b)
+abbrev pub is_usable : Facts → (sound_type : ℕ → Bool) → Body → (part : ℕ) → Bool
+is_usable facts sound_type b part = is_clear facts b && is_some (comm_of facts b) && usable_among facts sound_type b part (inputs_of b)
 
 -- the usable parts as a number: bit i says that part i is usable
-abbrev pub usable_parts : Facts → Body → ℕ
-usable_parts facts b = (if is_usable facts b 0 then 1 else 0) + (if is_usable facts b 1 then 2 else 0)
+abbrev pub usable_parts : Facts → (sound_type : ℕ → Bool) → Body → ℕ
+usable_parts facts sound_type b = (if is_usable facts sound_type b 0 then 1 else 0) + (if is_usable facts sound_type b 1 then 2 else 0)

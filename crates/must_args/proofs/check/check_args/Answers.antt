@@ -14,7 +14,7 @@ returns g c =
     let b = c.args.call.now.body in
     let at = c.args.at in
     let clear = c.is_empty-clear.ensures ∙ none_where_clear at c.in_ok-rows.rows (wrong_arguments facts b) c.in_ok-rows.ensures in
-    let starts = subst (λ (is : Bool). AddsBreaches at c.in_ok-rows.rows c.judge_starts.new.rows (active_requests facts at.call is b)) clear c.in_ok-judge_starts.ensures in
+    let starts = subst (λ (is : Bool). AddsBreaches at c.in_ok-rows.rows c.judge_starts.new.rows (active_requests (g.V.View.starts c.args.view.now) at.call is b)) clear c.in_ok-judge_starts.ensures in
     record {
       rows = adds_joined at c.args.out.now c.judge_starts.new.rows c.join.new.out _ (adds_both at [] c.in_ok-rows.rows c.judge_starts.new.rows _ _ c.in_ok-rows.ensures starts) c.in_ok-join.ensures.ok;
       clear = clear;

@@ -15,17 +15,17 @@ loop-i-init g c = record { adds = adds_none c.args.at c.args.rows.now; seen = λ
 
 pub loop-i-preserved : goal.loop-i-preserved
 loop-i-preserved g c =
-    let facts = g.V.View.facts c.args.view.now in
+    let starts = g.V.View.starts c.args.view.now in
     let xs = c.args.requests.now in
     let x = get_or xs c.loop-i.i 0 in
     record {
-      adds = active_step facts c.args.at.call true xs c.loop-i.i c.args.at c.args.rows.now c.loop-i.rows c.add_handle.new.rows c.loop-i-test.true c.loop-i.invariant.adds
+      adds = active_step starts c.args.at.call true xs c.loop-i.i c.args.at c.args.rows.now c.loop-i.rows c.add_handle.new.rows c.loop-i-test.true c.loop-i.invariant.adds
           (adds_as c.args.at c.loop-i.rows c.add_handle.new.rows _ _
-          (c.judge_start-broken.ensures c.loop-i.i ∙ ap (λ (b : Bool). active c.args.at.call b c.loop-i.i x (facts.start_of x)) (c.in_ok-again.ensures.again ∙ c.loop-i.invariant.seen x))
+          (c.judge_start-broken.ensures c.loop-i.i ∙ ap (λ (b : Bool). active c.args.at.call b c.loop-i.i x (starts x)) (c.in_ok-again.ensures.again ∙ c.loop-i.invariant.seen x))
           c.in_ok-add_handle.ensures);
       seen = λ h. c.in_ok-again.ensures.seen h ∙ ap (λ (b : Bool). b || nat_eq h x) (c.loop-i.invariant.seen h) ∙ sym (member_more xs c.loop-i.i h c.loop-i-test.true);
     }
 
 pub returns : goal.returns
 returns g c =
-    subst (λ (xs : List ℕ). AddsBreaches c.args.at c.args.rows.now c.loop-i.rows (active_from (g.V.View.facts c.args.view.now) c.args.at.call true [] 0 xs)) (take_all c.loop-i.i c.args.requests.now c.loop-i-test.false) c.loop-i.invariant.adds
+    subst (λ (xs : List ℕ). AddsBreaches c.args.at c.args.rows.now c.loop-i.rows (active_from (g.V.View.starts c.args.view.now) c.args.at.call true [] 0 xs)) (take_all c.loop-i.i c.args.requests.now c.loop-i-test.false) c.loop-i.invariant.adds

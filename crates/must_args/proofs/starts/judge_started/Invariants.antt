@@ -8,6 +8,6 @@ use Rattle.must_args.proofs.starts.judge_started.Given as goal
 
 abbrev pub invariant-loop-i : goal.invariant-loop-i
 invariant-loop-i g l = record {
-  adds : AddsBreaches l.at l.fn.rows l.rows (active_from (g.V.View.facts l.view) l.at.call true [] 0 (take l.i l.requests));
+  adds : AddsBreaches l.at l.fn.rows l.rows (active_from (g.V.View.starts l.view) l.at.call true [] 0 (take l.i l.requests));
   seen : (h : ℕ) → contains nat_cmp l.seen h ≡ is_member nat_eq (take l.i l.requests) h;
 }

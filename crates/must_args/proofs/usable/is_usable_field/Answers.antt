@@ -10,4 +10,4 @@ pub returns-then-has_sense : goal.returns-then-has_sense
 returns-then-has_sense g c =
     let sense : has_sense c.args.setting.now (Buffer c.in-Buffer.side) ≡ true =
     subst (λ (a : Argument). has_sense c.args.setting.now (seen a).0 ≡ true) c.in-Buffer.is (sym c.has_sense.ensures ∙ c.if-has_sense.true) in
-    rw c.in-Buffer.is (c.is_usable_side.ensures ∙ sym (ap (λ (b : Bool). b && is_usable_side (g.V.View.facts c.args.view.now) (all_seen c.args.arguments.now) c.in-Buffer.side) sense))
+    rw c.in-Buffer.is (c.is_usable_side.ensures ∙ sym (ap (λ (b : Bool). b && is_usable_side (g.V.View.sound c.args.view.now) (all_seen c.args.arguments.now) c.in-Buffer.side) sense))

@@ -7,7 +7,7 @@ loop-i-preserved c = record {
   few = omega (arith, c.in_ok-part.ensures.0, few_live c.state.result);
   so_far = λ is_clear calls stands.
       open_more c.args.at.rank c.args.at.call c.args.rule calls c.args.class c.loop-i.i c.loop-i.part c.in_ok-part.part c.state.result c.args.rows.now c.loop-i.rows c.add_live.new.rows
-      (c.state.ensures is_clear calls stands) c.in_ok-part.ensures.0 (c.loop-i.invariant.so_far is_clear calls stands) c.in_ok-part.ensures.1;
+      (c.state.ensures.stands is_clear calls stands) c.in_ok-part.ensures.0 (c.loop-i.invariant.so_far is_clear calls stands) c.in_ok-part.ensures.1;
 }
 
 pub returns : goal.returns

@@ -1,0 +1,90 @@
+-- What the tables tell is what the calls before made known.
+use Rattle.std.proofs.Common.{◌≡◌, ℕ, zero, suc, ◌+◌, Bool, true, false, cond, ◌&&◌, nat_eq, List, [], ◌∷◌, length, drop, Option, Some, None, refl, sym, ap, ◌∙◌, arith}
+use mathlib.Core.Path.{fun_ext}
+use Rattle.std.specs.Prelude.{position, slice_get}
+use Rattle.std.specs.Option.{option_map}
+use Rattle.std.specs.List.{list_all}
+use Rattle.must_call.specs.declared.class.Class.{Class}
+use Rattle.must_call.specs.declared.class.Class.TheVariants.{Comm, Group}
+use Rattle.must_call.specs.declared.life.Life.{Life}
+use Rattle.must_call.specs.declared.call.Call.{Call}
+use Rattle.must_group.specs.Names.{Name}
+use Rattle.must_rules.specs.Rank.{Rank}
+use Rattle.must_rules.specs.Lives.{life, committed}
+use Rattle.must_rules.specs.Starts.{start_of}
+use Rattle.must_rules.specs.Facts.{Facts, members_of, position_of}
+use Rattle.must_rules.specs.Clear.{is_clear, argument_breaches}
+use Rattle.must_rules.specs.Communicators.{is_there, there, collectives, name_of, usable_name, placed, members_named}
+use Rattle.must_rules.specs.Known.{group_of, facts_of, clear_behind}
+use Rattle.must_rules.specs.Local.{breaches_at}
+use Rattle.must_handle.specs.Slots.{state_in, committed_in, start_in}
+use Rattle.must_local.specs.declared.handles.Handles.{Handles}
+use Rattle.must_local.specs.Counted.{Counted, name_counted, counted}
+use Rattle.must_local.specs.Objects.{comm_in, group_in, counted_of}
+use Rattle.must_local.specs.HandlesKnown.{usable_comm, facts_in, HandlesStand}
+
+named_there : (b : Bool) (c : ℕ) (o : Option Name) → option_map name_counted (cond b (option_map (counted c) o) None) ≡ cond b o None
+named_there true c None = refl
+named_there true c (Some n) = refl
+named_there false c o = refl
+
+pub usable_is : (r : Rank) (h : Handles) (calls : List Call) (comm : ℕ) → HandlesStand r h calls → usable_comm h comm ≡ there (life calls Comm comm) (counted_of r calls comm)
+usable_is r h calls comm s = ap (λ (l : Life). there l (comm_in h.objects comm)) (s.lives.lives Comm comm) ∙ s.objects.comms comm
+
+pub named_is : (r : Rank) (h : Handles) (calls : List Call) (comm : ℕ) → HandlesStand r h calls → option_map name_counted (usable_comm h comm) ≡ usable_name r calls comm
+named_is r h calls comm s = ap (option_map name_counted) (usable_is r h calls comm s) ∙ named_there (is_there (life calls Comm comm)) (collectives calls comm) (name_of r calls comm)
+
+pub facts_are : (r : Rank) (h : Handles) (calls : List Call) → HandlesStand r h calls → facts_in h ≡ facts_of r calls
+facts_are r h calls s =
+    let lives : state_in h.lives ≡ life calls = fun_ext (λ (c : Class). fun_ext (λ (n : ℕ). s.lives.lives c n)) in
+    let commits : committed_in h.lives ≡ committed calls = fun_ext (λ (n : ℕ). s.lives.commits n) in
+    let comms : (λ (comm : ℕ). members_named h.rank (option_map name_counted (usable_comm h comm))) ≡ (λ (comm : ℕ). members_named r.rank (usable_name r calls comm)) = fun_ext (λ (comm : ℕ).
+    ap (λ (n : ℕ). members_named n (option_map name_counted (usable_comm h comm))) s.rank_is ∙ ap (members_named r.rank) (named_is r h calls comm s)) in
+    let groups : (λ (g : ℕ). there (state_in h.lives Group g) (group_in h.objects g)) ≡ (λ (g : ℕ). there (life calls Group g) (group_of r calls g)) = fun_ext (λ (g : ℕ).
+    ap (λ (l : Life). there l (group_in h.objects g)) (s.lives.lives Group g) ∙ s.objects.groups g) in
+    λ i. record { tag_ub = s.tag_is i; life = lives i; committed = commits i; comm = comms i; group = groups i }
+
+pub clear_is : (r : Rank) (h : Handles) (calls : List Call) (call : Call) → HandlesStand r h calls → is_clear (facts_in h) call.body ≡ clear_behind r calls call
+unfolding clear_behind
+clear_is r h calls call s = ap (λ (f : Facts). is_clear f call.body) (facts_are r h calls s)
+
+pub breaches_are : (r : Rank) (h : Handles) (calls : List Call) (call : Call) (k : ℕ) → HandlesStand r h calls → k ≡ length calls
+    → argument_breaches (facts_in h) (λ n. start_in h.lives n) k call.body ≡ breaches_at r calls call
+unfolding breaches_at
+breaches_are r h calls call k s e =
+    let starts : (λ (n : ℕ). start_in h.lives n) ≡ start_of (clear_behind r) calls = fun_ext (λ (n : ℕ). s.lives.starts n) in
+    λ i. argument_breaches (facts_are r h calls s i) (starts i) (e i) call.body
+
+-- ---- what a view is asked
+
+pub members_none : (h : Handles) (number : ℕ) (comm : Counted) → usable_comm h number ≡ Some comm → position (λ member. nat_eq member h.rank) comm.name.members ≡ None → None ≡ option_map members_of ((facts_in h).comm number)
+members_none h number comm e none =
+    sym (ap (λ (o : Option Counted). option_map members_of (members_named h.rank (option_map name_counted o))) e ∙ ap (λ (o : Option ℕ). option_map members_of (option_map (placed comm.name) o)) none)
+
+pub members_some : (h : Handles) (number : ℕ) (comm : Counted) (p : ℕ) → usable_comm h number ≡ Some comm → position (λ member. nat_eq member h.rank) comm.name.members ≡ Some p → Some comm.name.members ≡ option_map members_of ((facts_in h).comm number)
+members_some h number comm p e some =
+    sym (ap (λ (o : Option Counted). option_map members_of (members_named h.rank (option_map name_counted o))) e ∙ ap (λ (o : Option ℕ). option_map members_of (option_map (placed comm.name) o)) some)
+
+position_placed : (name : Name) (o : Option ℕ) → option_map position_of (option_map (placed name) o) ≡ o
+position_placed name None = refl
+position_placed name (Some p) = refl
+
+pub position_told : (h : Handles) (number : ℕ) (comm : Counted) → usable_comm h number ≡ Some comm → position (λ member. nat_eq member h.rank) comm.name.members ≡ option_map position_of ((facts_in h).comm number)
+position_told h number comm e =
+    sym (ap (λ (o : Option Counted). option_map position_of (members_named h.rank (option_map name_counted o))) e ∙ position_placed comm.name (position (λ member. nat_eq member h.rank) comm.name.members))
+
+-- ---- old types one after the other
+
+some_same : {X : Type 0} (x y : X) → Some x ≡ Some y → x ≡ y
+some_same x y e = cc
+
+pub all_next : {X : Type 0} (p : X → Bool) (xs : List X) (i : ℕ) (x : X) → slice_get xs i ≡ Some x → list_all p (drop i xs) ≡ (p x && list_all p (drop (i + 1) xs))
+all_next p [] i x e = let bad : None ≡ Some x = e in absurd cc
+all_next p (y ∷ ys) zero x e = let same : Some y ≡ Some x = e in ap (λ z. p z && list_all p ys) (some_same y x same)
+all_next p (y ∷ ys) (suc i) x e = all_next p ys i x e ∙ ap (λ n. p x && list_all p (drop n (y ∷ ys))) (let on : suc (i + 1) ≡ suc i + 1 = omega arith in on)
+
+pub all_done : {X : Type 0} (p : X → Bool) (xs : List X) (i : ℕ) → slice_get xs i ≡ None → list_all p (drop i xs) ≡ true
+all_done p [] zero e = refl
+all_done p [] (suc i) e = refl
+all_done p (y ∷ ys) zero e = let bad : Some y ≡ None = e in absurd cc
+all_done p (y ∷ ys) (suc i) e = all_done p ys i e

@@ -1,0 +1,308 @@
+//! What a rank knows of its handles.
+
+ghost use Rattle.std.specs.Prelude.{◌≡◌, ◌+◌, ◌++◌, ◌∷◌, [], ℕ, true, None, ◌<◌, ◌^◌, List, length, option_map, IfOk, IfSome, OnOk};
+ghost use Rattle.std.specs.List.{list_all};
+ghost use Rattle.must_call.specs.declared.call.Call.{Call};
+ghost use Rattle.must_call.specs.Handles.{handles_of};
+ghost use Rattle.must_rules.specs.Rank.{Rank};
+ghost use Rattle.must_rules.specs.Clear.{is_clear};
+ghost use Rattle.must_rules.specs.Communicators.{derived_of};
+ghost use Rattle.must_rules.specs.Known.{group_made};
+ghost use Rattle.must_handle.specs.Changes.{IsNext};
+ghost use Rattle.must_rules.specs.Facts.{members_of};
+ghost use Rattle.must_local.specs.Objects.{type_in, HasMembers};
+ghost use Rattle.must_local.specs.HandlesKnown.{Counts, TakesIn, usable_comm, comm_made, known_comm, known_made, facts_in, HandlesStand};
+
+use crate::derived::{comm_named, derived_comm, is_collective, is_there};
+use crate::fault::WalkFault;
+use crate::groups::{copy_of, difference, excluded, included, intersection, union};
+use crate::comm::Comm;
+use crate::known::Known;
+use crate::objects::Objects;
+use must_args::View;
+use must_base::NoMemory;
+use must_call::{Body, Call, Class, Life, Object};
+use must_format::Limit;
+use must_group::{Group, NameFault};
+use must_handle::{Lives, made};
+use std::alloc::Global;
+
+/// What the calls of a rank taken so far made of its handles.
+#[derive(Drop)]
+pub struct Handles {
+    pub rank: u32,
+    pub tag_ub: i32,
+    pub lives: Lives,
+    pub objects: Objects,
+}
+
+impl View for Handles {
+    ghost use Rattle.must_handle.specs.Slots.{start_in};
+    ghost use Rattle.must_local.specs.Objects.{type_in};
+    ghost use Rattle.must_local.specs.HandlesKnown.{facts_in};
+
+    ghost facts = { λ h. facts_in h };
+
+    ghost sound = { λ h number. type_in h.objects number };
+
+    ghost starts = { λ h number. start_in h.lives number };
+
+    fn life(&self, class: Class, number: u32) -> Life {
+        self.lives.state(class, number)
+    }
+
+    fn committed(&self, number: u32) -> bool {
+        self.lives.committed(number)
+    }
+
+    fn comm_size(&self, number: u32) -> Option<u32> {
+        let members = self.members(number)?;
+        Some(members.ranks().len() as u32)
+    }
+
+    fn own_rank(&self, number: u32) -> Option<u32> {
+        let comm = self.comm(number)?;
+        comm.name().members().position(self.rank)
+    }
+
+    fn group(&self, number: u32) -> Option<&Group> {
+        self.usable_group(number)
+    }
+
+    fn comm_group(&self, number: u32) -> Option<&Group> {
+        self.members(number)
+    }
+
+    fn sound_type(&self, number: u32) -> bool {
+        self.objects.is_type(number)
+    }
+
+    fn tag_ub(&self) -> i32 {
+        self.tag_ub
+    }
+
+    fn start_of(&self, number: u32) -> Option<u32> {
+        self.lives.start_of(number)
+    }
+}
+
+impl Handles {
+    /// What is known before the first call, at a rank of a run of so many.
+    pub fn new(alloc: Global, rank: u32, size: u32, tag_ub: i32) -> Result<Handles, NoMemory>
+        ensures stands { IfOk result (λ h. (r : Rank) → r.rank ≡ rank → r.size ≡ size → r.tag_ub ≡ tag_ub → HandlesStand r h []) }
+        ensures told { IfOk result (λ h. (h.rank ≡ rank) × (h.tag_ub ≡ tag_ub)) }
+    {
+        let lives = Lives::new(alloc)?;
+        let objects = Objects::new(alloc, rank, size)?;
+        Ok(Handles {
+            rank,
+            tag_ub,
+            lives,
+            objects,
+        })
+    }
+
+    /// A sound communicator that may be used.
+    fn comm(&self, number: u32) -> Option<&Comm>
+        ensures { option_map (λ c. c.now) result ≡ usable_comm self.now number }
+    {
+        if is_there(self.lives.state(Class::Comm, number)) {
+            self.objects.comm(number)
+        } else {
+            None
+        }
+    }
+
+    /// The members of a sound communicator that may be used, where this rank is one.
+    fn members(&self, number: u32) -> Option<&Group>
+        ensures members { option_map (λ g. g.now) result ≡ option_map members_of ((facts_in self.now).comm number) }
+        ensures few { IfSome result (λ g. length g.now < 2 ^ 32) }
+    {
+        let members = self.comm(number)?.name().members();
+        members.position(self.rank)?;
+        Some(members)
+    }
+
+    /// A sound group that may be used.
+    fn usable_group(&self, number: u32) -> Option<&Group>
+        ensures { option_map (λ g. g.now) result ≡ (facts_in self.now).group number }
+    {
+        if is_there(self.lives.state(Class::Group, number)) {
+            self.objects.group(number)
+        } else {
+            None
+        }
+    }
+
+    /// What is known of the communicator that call `k` makes.
+    fn comm_made(&self, alloc: Global, k: u32, body: &Body) -> Result<Known, WalkFault>
+        requires { HasMembers (derived_of body.now) }
+        ensures { IfOk result (λ known. known ≡ known_comm (comm_made self.now (derived_of body.now))) }
+    {
+        let Some(made) = derived_comm(body) else {
+            return Ok(Known::Nothing);
+        };
+        let Some(parent) = self.comm(made.parent) else {
+            return Ok(Known::Nothing);
+        };
+        let members = Group::of(alloc, made.members)?;
+        match parent.name().child(alloc, parent.calls(), made.class, members) {
+            Ok(name) => Ok(Known::Comm(Comm::new(name))),
+            Err(NameFault::TooDeep) => Err(WalkFault::TooWide {
+                call: k,
+                limit: Limit::Path,
+            }),
+            Err(NameFault::NoMemory) => Err(WalkFault::NoMemory),
+        }
+    }
+
+    /// The group that a clear call makes, where what it is made of is sound.
+    fn group_made(&self, alloc: Global, body: &Body) -> Result<Option<Group>, NoMemory>
+        requires { is_clear (facts_in self.now) body.now ≡ true }
+        ensures { IfOk result (λ made. made ≡ group_made (facts_in self.now) body.now) }
+    {
+        let Body::Object(object) = body else {
+            return Ok(None);
+        };
+        match object {
+            Object::CommGroup { comm, .. } => copy_of(alloc, self.members(*comm)),
+            Object::GroupIncl { group, ranks, .. } => {
+                included(alloc, self.usable_group(*group), ranks.items())
+            }
+            Object::GroupExcl { group, ranks, .. } => {
+                excluded(alloc, self.usable_group(*group), ranks.items())
+            }
+            Object::GroupUnion { first, second, .. } => {
+                union(alloc, self.usable_group(*first), self.usable_group(*second))
+            }
+            Object::GroupIntersection { first, second, .. } => {
+                intersection(alloc, self.usable_group(*first), self.usable_group(*second))
+            }
+            Object::GroupDifference { first, second, .. } => {
+                difference(alloc, self.usable_group(*first), self.usable_group(*second))
+            }
+            _ => Ok(None),
+        }
+    }
+
+    /// Whether the types that a call names are sound.
+    fn names_sound_types(&self, call: &Call) -> bool
+        requires { length (handles_of call.now.body) < 2 ^ 32 }
+        ensures { result ≡ list_all (λ old. type_in self.now.objects old.1) (handles_of call.now.body) }
+    {
+        for i in 0..u32::MAX {
+            match call.handle(i) {
+                None => return true,
+                Some((_class, number)) => {
+                    if !self.objects.is_type(number) {
+                        return false;
+                    }
+                }
+            }
+        }
+        true
+    }
+
+    /// What is known of the handle of this class that call `k` makes; `clear` says whether the call is.
+    fn known_made(
+        &self,
+        alloc: Global,
+        k: u32,
+        class: Class,
+        call: &Call,
+        clear: bool,
+    ) -> Result<Known, WalkFault>
+        requires members { HasMembers (derived_of call.now.body) }
+        requires short { length (handles_of call.now.body) < 2 ^ 32 }
+        requires clear { clear ≡ is_clear (facts_in self.now) call.now.body }
+        ensures { IfOk result (λ known. known ≡ known_made self.now class clear call.now.body) }
+    {
+        match class {
+            Class::Comm => self.comm_made(alloc, k, &call.body),
+            Class::Group => {
+                if !clear {
+                    return Ok(Known::Nothing);
+                }
+                match self.group_made(alloc, &call.body)? {
+                    Some(group) => Ok(Known::Group(group)),
+                    None => Ok(Known::Nothing),
+                }
+            }
+            Class::Datatype => {
+                if clear && self.names_sound_types(call) {
+                    Ok(Known::Type)
+                } else {
+                    Ok(Known::Nothing)
+                }
+            }
+            _ => Ok(Known::Nothing),
+        }
+    }
+
+    /// Counts a collective call on a communicator that may be used.
+    fn count(&mut self, body: &Body) -> Result<(), NoMemory>
+        ensures counts { OnOk result (Counts self.old body.now self.old.objects self.new.objects) }
+        ensures lives { self.new.lives ≡ self.old.lives }
+        ensures told { (self.new.rank ≡ self.old.rank) × (self.new.tag_ub ≡ self.old.tag_ub) }
+    {
+        if !is_collective(body) {
+            return Ok(());
+        }
+        let Some(comm) = comm_named(body) else {
+            return Ok(());
+        };
+        if is_there(self.lives.state(Class::Comm, comm)) {
+            self.objects.count(comm)?;
+        }
+        Ok(())
+    }
+
+    /// Takes call `k` into the table of what is known.
+    fn take_in(
+        &mut self,
+        alloc: Global,
+        k: u32,
+        call: &Call,
+        clear: bool,
+    ) -> Result<(), WalkFault>
+        requires members { HasMembers (derived_of call.now.body) }
+        requires short { length (handles_of call.now.body) < 2 ^ 32 }
+        requires clear { clear ≡ is_clear (facts_in self.old) call.now.body }
+        ensures takes { OnOk result (TakesIn self.old clear call.now self.new.objects) }
+        ensures lives { self.new.lives ≡ self.old.lives }
+        ensures told { (self.new.rank ≡ self.old.rank) × (self.new.tag_ub ≡ self.old.tag_ub) }
+    {
+        match made(call) {
+            None => {
+                self.count(&call.body)?;
+                Ok(())
+            }
+            Some((class, _number)) => {
+                let known = self.known_made(alloc, k, class, call, clear)?;
+                self.count(&call.body)?;
+                self.objects.push(known)?;
+                Ok(())
+            }
+        }
+    }
+
+    /// Takes call `k`, the next; `clear` says whether it is. The handle that it makes, if any, has the next number.
+    pub fn take(
+        &mut self,
+        alloc: Global,
+        k: u32,
+        call: &Call,
+        clear: bool,
+    ) -> Result<(), WalkFault>
+        requires next { IsNext self.old.lives call.now }
+        requires members { HasMembers (derived_of call.now.body) }
+        requires short { length (handles_of call.now.body) < 2 ^ 32 }
+        requires clear { clear ≡ is_clear (facts_in self.old) call.now.body }
+        ensures stands { OnOk result ((r : Rank) (calls : List Call) → length calls ≡ k → HandlesStand r self.old calls → HandlesStand r self.new (calls ++ call.now ∷ [])) }
+        ensures told { OnOk result ((self.new.rank ≡ self.old.rank) × (self.new.tag_ub ≡ self.old.tag_ub)) }
+    {
+        self.take_in(alloc, k, call, clear)?;
+        self.lives.apply(k, call, clear)?;
+        Ok(())
+    }
+}
