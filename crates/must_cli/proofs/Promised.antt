@@ -6,9 +6,8 @@ use Rattle.std.proofs.lemmas.List.{length-map}
 use Rattle.must_call.specs.declared.call.Call.{Call}
 use Rattle.must_format.specs.declared.fault.StreamFault.{StreamFault}
 use Rattle.must_format.specs.declared.fault.StreamFault.TheVariants as fault
-use Rattle.must_format.specs.Stream.{Accepted}
-use Rattle.must_format.specs.StreamLaws.{refused_is_one, accepted_or_refused}
-use Rattle.must_rules.specs.Streams.{Records}
+use Rattle.must_rules.specs.LimitLaws.{refused_is_one, accepted_or_refused}
+use Rattle.must_rules.specs.Streams.{Accepted, Records}
 use Rattle.must_cli.specs.declared.status.Status.{Status}
 use Rattle.must_cli.specs.declared.status.Status.TheVariants as status
 use Rattle.must_cli.specs.Command.{Check, command}

@@ -5,12 +5,11 @@ use Rattle.must_base.specs.Views.{SourceView, SinkView, PutsAll, PutsFront}
 use Rattle.must_call.specs.declared.call.Call.{Call}
 use Rattle.must_format.specs.declared.fault.StreamFault.{StreamFault}
 use Rattle.must_format.specs.declared.fault.StreamFault.TheVariants as fault
-use Rattle.must_format.specs.Stream.{Accepted, Refused}
 use Rattle.must_find.specs.declared.finding.Finding.{Finding}
 use Rattle.must_find.specs.Rules.{usual_severities}
 use Rattle.must_find.specs.Report.{shown, report_of}
 use Rattle.must_rules.specs.Run.{Run}
-use Rattle.must_rules.specs.Streams.{Records}
+use Rattle.must_rules.specs.Streams.{Accepted, Refused, Records}
 use Rattle.must_cli.specs.declared.status.Status.{Status}
 use Rattle.must_cli.specs.declared.status.Status.TheVariants as status
 use Rattle.must_cli.specs.Command.{Check, command}
@@ -69,7 +68,7 @@ Cuts out rows = PutsFront out.old out.new (report_of usual_severities rows)
 
 -- ---- the answers of a check
 
--- The report is whole: every stream is complete and was read to its end, what was put is the report of the run's rows,
+-- The report is whole: every stream is accepted and was read to its end, what was put is the report of the run's rows,
 -- and there is no line on the error stream.
 pub record WholeReport (o : Outside) (err : Output) (found : Bool) : Type 0 where
   pub rows : List Finding
@@ -77,7 +76,7 @@ pub record WholeReport (o : Outside) (err : Output) (found : Bool) : Type 0 wher
   pub writes : Writes o.out rows found
   pub quiet : IsUnchanged err
 
--- Refused stream: the lowest rank whose stream isn't complete, with its first bad place, which the line names.
+-- Refused stream: the lowest rank whose stream isn't accepted, with its first bad place, which the line names.
 pub record RefusedStream (o : Outside) (err : Output) (answer : Status) : Type 0 where
   pub rank : ℕ
   pub fault : StreamFault
@@ -86,14 +85,14 @@ pub record RefusedStream (o : Outside) (err : Output) (answer : Status) : Type 0
   pub answer_is : answer ≡ status_for fault
   pub line : Puts err (fault_line rank fault)
 
--- A read of a rank's file failed, and the streams of all lower ranks are complete.
+-- A read of a rank's file failed, and the streams of all lower ranks are accepted.
 pub record FailedRead (o : Outside) (err : Output) : Type 0 where
   pub rank : ℕ
   pub stops : Stops o.told o.parts rank fault.Read
   pub nothing : IsUnchanged o.out
   pub line : Puts err (fault_line rank fault.Read)
 
--- A put of the report failed: every stream is complete, and a front of the run's report was put.
+-- A put of the report failed: every stream is accepted, and a front of the run's report was put.
 pub record FailedWrite (o : Outside) (err : Output) : Type 0 where
   pub rows : List Finding
   pub reads : ReadsRun o.told o.parts rows
@@ -117,7 +116,7 @@ pub record RefusedWords (words : List (List ℕ)) (out err : Output) (answer : S
 
 -- ---- completeness
 
--- the bytes of a rank's file are told, and its stream is complete
+-- the bytes of a rank's file are told, and its stream is accepted
 abbrev pub IsKnownAccepted : List (Option (List ℕ)) → ℕ → Type 0
 IsKnownAccepted told rank =
     (bytes : List ℕ) × (told_at told rank ≡ Some bytes) × ((calls : List Call) × Accepted rank (length told) bytes calls)

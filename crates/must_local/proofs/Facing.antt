@@ -1,27 +1,32 @@
 -- What the tables tell is what the calls before made known.
-use Rattle.std.proofs.Common.{◌≡◌, ℕ, zero, suc, ◌+◌, Bool, true, false, cond, ◌&&◌, nat_eq, List, [], ◌∷◌, length, drop, Option, Some, None, refl, sym, ap, ◌∙◌, arith}
+use Rattle.std.proofs.Common.{◌≡◌, ℕ, zero, suc, ◌+◌, Bool, true, false, cond, ◌&&◌, nat_eq, List, [], ◌∷◌, length, drop, Option, Some, None, refl, sym, ap, subst, ◌∙◌, arith}
 use mathlib.Core.Path.{fun_ext}
-use Rattle.std.specs.Prelude.{position, slice_get}
+use Rattle.std.specs.Prelude.{position, slice_get, Result, Err, IfErr}
+use Rattle.must_local.specs.declared.fault.WalkFault.{WalkFault}
 use Rattle.std.specs.Option.{option_map}
 use Rattle.std.specs.List.{list_all}
 use Rattle.must_call.specs.declared.class.Class.{Class}
-use Rattle.must_call.specs.declared.class.Class.TheVariants.{Comm, Group}
+use Rattle.must_call.specs.declared.class.Class.TheVariants.{Comm, Group, Datatype, Operation, Request}
 use Rattle.must_call.specs.declared.life.Life.{Life}
 use Rattle.must_call.specs.declared.call.Call.{Call}
 use Rattle.must_group.specs.Names.{Name}
+use Rattle.must_call.specs.declared.body.Body.{Body}
+use Rattle.must_call.specs.Handles.{ClassedHandle}
+use Rattle.must_rules.specs.Making.{made_by}
+use Rattle.must_rules.specs.Limits.{is_comm, parent_name, has_full_path, is_too_deep, limit_at}
 use Rattle.must_rules.specs.Rank.{Rank}
 use Rattle.must_rules.specs.Lives.{life, committed}
 use Rattle.must_rules.specs.Starts.{start_of}
 use Rattle.must_rules.specs.Facts.{Facts, members_of, position_of}
 use Rattle.must_rules.specs.Clear.{is_clear, argument_breaches}
-use Rattle.must_rules.specs.Communicators.{is_there, there, collectives, name_of, usable_name, placed, members_named}
+use Rattle.must_rules.specs.Communicators.{Derived, derived_of, is_there, there, collectives, name_of, usable_name, placed, members_named}
 use Rattle.must_rules.specs.Known.{group_of, facts_of, clear_behind}
 use Rattle.must_rules.specs.Local.{breaches_at}
 use Rattle.must_handle.specs.Slots.{state_in, committed_in, start_in}
 use Rattle.must_local.specs.declared.handles.Handles.{Handles}
 use Rattle.must_local.specs.Counted.{Counted, name_counted, counted}
 use Rattle.must_local.specs.Objects.{comm_in, group_in, counted_of}
-use Rattle.must_local.specs.HandlesKnown.{usable_comm, facts_in, HandlesStand}
+use Rattle.must_local.specs.HandlesKnown.{usable_comm, facts_in, full_path, parent_in, made_too_deep, path_limit, HandlesStand}
 
 named_there : (b : Bool) (c : ℕ) (o : Option Name) → option_map name_counted (cond b (option_map (counted c) o) None) ≡ cond b o None
 named_there true c None = refl
@@ -88,3 +93,30 @@ all_done p [] zero e = refl
 all_done p [] (suc i) e = refl
 all_done p (y ∷ ys) zero e = let bad : Some y ≡ None = e in absurd cc
 all_done p (y ∷ ys) (suc i) e = all_done p ys i e
+
+-- ---- limits
+
+full_named : (o : Option Counted) → has_full_path (option_map name_counted o) ≡ full_path o
+full_named None = refl
+full_named (Some comm) = refl
+
+parent_is : (r : Rank) (h : Handles) (calls : List Call) (d : Option Derived) → HandlesStand r h calls → full_path (parent_in h d) ≡ has_full_path (parent_name (usable_name r calls) d)
+parent_is r h calls None s = refl
+parent_is r h calls (Some d) s = sym (full_named (usable_comm h d.parent)) ∙ ap has_full_path (named_is r h calls d.parent s)
+
+deep_by : (r : Rank) (h : Handles) (calls : List Call) (b : Body) (o : Option ClassedHandle) → HandlesStand r h calls → made_too_deep h o b ≡ (is_comm o && has_full_path (parent_name (usable_name r calls) (derived_of b)))
+deep_by r h calls b None s = refl
+deep_by r h calls b (Some (Comm, n)) s = parent_is r h calls (derived_of b) s
+deep_by r h calls b (Some (Group, n)) s = refl
+deep_by r h calls b (Some (Datatype, n)) s = refl
+deep_by r h calls b (Some (Operation, n)) s = refl
+deep_by r h calls b (Some (Request, n)) s = refl
+
+-- the limit that a call reaches by the tables is the one that it reaches
+pub limit_is : (r : Rank) (h : Handles) (calls : List Call) (call : Call) → HandlesStand r h calls → path_limit (made_too_deep h (made_by call) call.body) ≡ limit_at r calls call
+unfolding is_too_deep
+limit_is r h calls call s = ap path_limit (deep_by r h calls call.body (made_by call) s)
+
+-- what holds of a fault holds of the result that hands it on
+pub handed_on : {A : Type 0} (result : Result A WalkFault) (given fault : WalkFault) (P : WalkFault → Type 0) → result ≡ Err given → given ≡ fault → P fault → IfErr result P
+handed_on {A} result given fault P is same holds = subst (λ (x : Result A WalkFault). IfErr x P) (sym is) (subst P (sym same) holds)

@@ -30,9 +30,12 @@ use Rattle.must_rules.specs.Starts.{Clearness}
 use Rattle.must_rules.specs.Breaches.{Breach, IsBreach, AddsBreaches}
 use Rattle.must_rules.specs.Clear.{argument_breaches}
 use Rattle.must_rules.specs.Known.{clear_behind}
+use Rattle.must_rules.specs.Limits.{limit_at, IsWithin}
+use Rattle.must_rules.specs.LimitLaws.{within_none, within_more}
 use Rattle.must_rules.specs.WrongLaws.{place_behind, breach_found, found_breach}
 use Rattle.must_handle.specs.Slots.{Stands, start_in}
-use Rattle.must_local.specs.HandlesKnown.{facts_in, HandlesStand}
+use Rattle.must_local.specs.HandlesKnown.{facts_in, IsLimitAt, HandlesStand}
+use Rattle.must_local.specs.declared.fault.WalkFault.{WalkFault}
 use Rattle.must_local.proofs.Facing.{breaches_are}
 use Rattle.must_local.specs.declared.batch.Batch.{Batch}
 use Rattle.must_local.specs.Entries.{rows_of}
@@ -168,6 +171,7 @@ walks_first version w n i f r stands = record {
   once = tt;
   rows = λ g. (λ h. absurd h, λ is. absurd (here_none (rank_by version w.rank) g is));
   middle = tt;
+  within = within_none (rank_by version w.rank);
 }
 
 all_more : (given : List Batch) (batch : Batch) → all_rows (given ++ batch ∷ []) ≡ all_rows given ++ rows_of batch.entries
@@ -192,9 +196,9 @@ joined P Q R fs gs old new apart p q r = record {
   );
 }
 
-pub walks_more : (version : ℕ) (w v : WalkState) (calls : List Call) (call : Call) (given : List Batch) (batch : Batch) (rows : List Finding) → Knows version v (calls ++ call ∷ []) → v.rank ≡ w.rank → RowsAt (rank_by version w.rank) calls call rows
+pub walks_more : (version : ℕ) (w v : WalkState) (calls : List Call) (call : Call) (given : List Batch) (batch : Batch) (rows : List Finding) → Knows version v (calls ++ call ∷ []) → limit_at (rank_by version w.rank) calls call ≡ None → v.rank ≡ w.rank → RowsAt (rank_by version w.rank) calls call rows
     → rows_of batch.entries ≡ rows → batch.rank ≡ (rank_by version w.rank).rank → batch.last ≡ false → Walks version w calls given → Walks version v (calls ++ call ∷ []) (given ++ batch ∷ [])
-walks_more version w v calls call given batch rows knows same at are rank_is goes_on walks =
+walks_more version w v calls call given batch rows knows none same at are rank_is goes_on walks =
     let r = rank_by version w.rank in
     let r_is : rank_by version v.rank ≡ r = ap (rank_by version) same in
     let new : Joins (IsBehind r calls call) (rows_of batch.entries) = subst (Joins (IsBehind r calls call)) (sym are) (record { once = rises_distinct by_all by_all_total rows at.rises; rows = at.exact }) in
@@ -207,6 +211,7 @@ walks_more version w v calls call given batch rows knows same at are rank_is goe
       once = here.once;
       rows = here.rows;
       middle = subst (λ (s : Rank). AllByRecursion (IsMiddle s.rank) (given ++ batch ∷ [])) (sym r_is) (all_push (IsMiddle r.rank) given batch walks.middle (record { rank_is = rank_is; goes_on = goes_on }));
+      within = subst (λ (s : Rank). IsWithin s (calls ++ call ∷ [])) (sym r_is) (within_more r calls call walks.within none);
     }
 
 -- ---- the same of a walk whose fields tell its state
@@ -245,6 +250,13 @@ knows_seen version w x v e calls call i f knows is fs n init finalize returned s
     let handles = stands (rank_by version w.rank) (sym k.number) k.handles in
     knows_next version w v calls call k n (init ∙ ap (λ (b : Bool). or_then w.init (only_if b w.number)) is) (finalize ∙ ap (λ (b : Bool). or_then w.finalize (only_if b w.number)) fs) returned
     (subst (λ (t : RankTold). HandlesStand (rank_by version t) v.handles (calls ++ call ∷ [])) (sym same) handles)
+
+pub limit_seen : (version : ℕ) (w x : WalkState) → w ≡ x → (calls : List Call) (call : Call) (f : WalkFault) → Knows version x calls
+    → ((r : Rank) → HandlesStand r w.handles calls → IsLimitAt w.number (limit_at r calls call) f) → IsLimitAt (length calls) (limit_at (rank_by version x.rank) calls call) f
+limit_seen version w x e calls call f knows over =
+    let k : Knows version w calls = subst (λ (v : WalkState). Knows version v calls) (sym e) knows in
+    subst (λ (v : WalkState). IsLimitAt (length calls) (limit_at (rank_by version v.rank) calls call) f) e
+    (subst (λ (n : ℕ). IsLimitAt n (limit_at (rank_by version w.rank) calls call) f) k.number (over (rank_by version w.rank) k.handles))
 
 -- ---- the end
 

@@ -1,12 +1,17 @@
 -- What a rank knows of its handles by its tables, and the calls that these stand for.
-use Rattle.std.specs.Prelude.{◌≡◌, ◌⊎◌, ◌++◌, ◌∷◌, [], ℕ, Bool, ◌&&◌, if◌then◌else◌, List, length, Option, Some, None, option_map}
+use Rattle.std.specs.Prelude.{◌≡◌, ◌⊎◌, ◌++◌, ◌∷◌, [], ℕ, Bool, false, nat_eq, ◌&&◌, if◌then◌else◌, List, length, Option, Some, None, option_map}
 use Rattle.std.specs.List.{list_all}
 use Rattle.must_call.specs.declared.class.Class.{Class}
 use Rattle.must_call.specs.declared.class.Class.TheVariants as class
 use Rattle.must_call.specs.declared.body.Body.{Body}
 use Rattle.must_call.specs.declared.call.Call.{Call}
-use Rattle.must_call.specs.Handles.{handles_of}
 use Rattle.must_group.specs.Names.{Name}
+use Rattle.must_format.specs.declared.cause.Limit.{Limit}
+use Rattle.must_format.specs.declared.cause.Limit.TheVariants as limit
+use Rattle.must_call.specs.Handles.{ClassedHandle, handles_of}
+use Rattle.must_rules.specs.Limits.{longest_path}
+use Rattle.must_local.specs.declared.fault.WalkFault.{WalkFault}
+use Rattle.must_local.specs.declared.fault.WalkFault.TheVariants as walk_fault
 use Rattle.must_rules.specs.Rank.{Rank}
 use Rattle.must_rules.specs.Making.{made_by}
 use Rattle.must_rules.specs.Facts.{Facts}
@@ -86,3 +91,30 @@ pub record TakesIn (old : Handles) (clear : Bool) (call : Call) (new : List Know
   pub mid : List Known
   pub counts : Counts old call.body old.objects mid
   pub grows : Grows old clear call mid new
+
+-- ---- a path that grows no further
+
+abbrev pub full_path : Option Counted → Bool
+full_path None = false
+full_path (Some comm) = nat_eq (length comm.name.path) longest_path
+
+abbrev pub parent_in : Handles → Option Derived → Option Counted
+parent_in h None = None
+parent_in h (Some d) = usable_comm h d.parent
+
+-- a call that makes a handle of this class would make a communicator with too long a path
+abbrev pub too_deep : Handles → Class → Body → Bool
+too_deep h class.Comm b = full_path (parent_in h (derived_of b))
+too_deep h _ b = false
+
+abbrev pub made_too_deep : Handles → Option ClassedHandle → Body → Bool
+made_too_deep h None b = false
+made_too_deep h (Some made) b = too_deep h made.0 b
+
+-- what stops a walk at call k is the limit that it reaches, or want of memory
+abbrev pub IsLimitAt : ℕ → Option Limit → WalkFault → Type 0
+IsLimitAt k reached (walk_fault.TooWide call limit) = (call ≡ k) × (reached ≡ Some limit)
+IsLimitAt k reached walk_fault.NoMemory = Unit {0}
+
+abbrev pub path_limit : Bool → Option Limit
+path_limit deep = if deep then Some limit.Path else None

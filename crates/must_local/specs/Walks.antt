@@ -10,6 +10,7 @@ use Rattle.must_rules.specs.Frames.{first_init, first_finalize, ends_returned}
 use Rattle.must_rules.specs.Local.{IsHere, IsLocal}
 use Rattle.must_local.specs.declared.handles.Handles.{Handles}
 use Rattle.must_call.specs.Handles.{handles_of}
+use Rattle.must_rules.specs.Limits.{IsWithin}
 use Rattle.must_rules.specs.Communicators.{derived_of}
 use Rattle.must_handle.specs.Changes.{IsNext}
 use Rattle.must_local.specs.Objects.{HasMembers}
@@ -61,12 +62,13 @@ pub record IsMiddle (rank : ℕ) (b : Batch) : Type 0 where
   pub rank_is : b.rank ≡ rank
   pub goes_on : b.last ≡ false
 
--- the walk has taken these calls and given these batches
+-- the walk has taken these calls, which reach no limit, and given these batches
 pub record Walks (version : ℕ) (w : WalkState) (calls : List Call) (given : List Batch) : Type 0 where
   pub knows : Knows version w calls
   pub once : AreDistinct (all_rows given)
   pub rows : (f : Finding) → Has (all_rows given) f ↔ IsHere (rank_by version w.rank) calls f
   pub middle : AllByRecursion (IsMiddle (rank_by version w.rank).rank) given
+  pub within : IsWithin (rank_by version w.rank) calls
 
 -- these batches are all that the calls of a rank give: each local row once, and the last batch alone is the last
 pub record GivesAll (r : Rank) (calls : List Call) (batches : List Batch) : Type 0 where

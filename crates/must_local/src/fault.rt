@@ -1,9 +1,12 @@
 //! Why a walk stops.
 
+ghost use Rattle.std.specs.Prelude.{◌≡◌};
+ghost use Rattle.must_local.specs.declared.fault.WalkFault.TheVariants.{NoMemory as OutOfMemory};
+
 use must_base::NoMemory;
 use must_format::Limit;
 
-/// The first call that reaches a limit (docs/FORMAT.md), or want of memory. No call reaches one so far.
+/// The first call that reaches a limit (docs/FORMAT.md, "Limits"), so far a communicator's path alone, or want of memory.
 #[derive(Clone, Copy, Debug, PartialEq, Eq)]
 pub enum WalkFault {
     TooWide { call: u32, limit: Limit },
@@ -11,6 +14,8 @@ pub enum WalkFault {
 }
 
 impl From<NoMemory> for WalkFault {
+    ghost from_gives = { λ _ e. e ≡ OutOfMemory };
+
     fn from(_: NoMemory) -> WalkFault {
         WalkFault::NoMemory
     }

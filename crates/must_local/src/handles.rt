@@ -1,17 +1,19 @@
 //! What a rank knows of its handles.
 
-ghost use Rattle.std.specs.Prelude.{◌≡◌, ◌+◌, ◌++◌, ◌∷◌, [], ℕ, true, None, ◌<◌, ◌^◌, List, length, option_map, IfOk, IfSome, OnOk};
+ghost use Rattle.std.specs.Prelude.{◌≡◌, ◌+◌, ◌++◌, ◌∷◌, [], ℕ, true, None, ◌<◌, ◌^◌, List, length, option_map, IfOk, IfErr, IfSome, OnOk, false};
 ghost use Rattle.std.specs.List.{list_all};
 ghost use Rattle.must_call.specs.declared.call.Call.{Call};
 ghost use Rattle.must_call.specs.Handles.{handles_of};
 ghost use Rattle.must_rules.specs.Rank.{Rank};
+ghost use Rattle.must_rules.specs.Making.{made_by};
+ghost use Rattle.must_rules.specs.Limits.{limit_at};
 ghost use Rattle.must_rules.specs.Clear.{is_clear};
 ghost use Rattle.must_rules.specs.Communicators.{derived_of};
 ghost use Rattle.must_rules.specs.Known.{group_made};
 ghost use Rattle.must_handle.specs.Changes.{IsNext};
 ghost use Rattle.must_rules.specs.Facts.{members_of};
 ghost use Rattle.must_local.specs.Objects.{type_in, HasMembers};
-ghost use Rattle.must_local.specs.HandlesKnown.{Counts, TakesIn, usable_comm, comm_made, known_comm, known_made, facts_in, HandlesStand};
+ghost use Rattle.must_local.specs.HandlesKnown.{Counts, TakesIn, IsLimitAt, path_limit, full_path, parent_in, too_deep, made_too_deep, usable_comm, comm_made, known_comm, known_made, facts_in, HandlesStand};
 
 use crate::derived::{comm_named, derived_comm, is_collective, is_there};
 use crate::fault::WalkFault;
@@ -137,7 +139,9 @@ impl Handles {
     /// What is known of the communicator that call `k` makes.
     fn comm_made(&self, alloc: Global, k: u32, body: &Body) -> Result<Known, WalkFault>
         requires { HasMembers (derived_of body.now) }
-        ensures { IfOk result (λ known. known ≡ known_comm (comm_made self.now (derived_of body.now))) }
+        ensures known { IfOk result (λ known. known ≡ known_comm (comm_made self.now (derived_of body.now))) }
+        ensures within { IfOk result (λ known. full_path (parent_in self.now (derived_of body.now)) ≡ false) }
+        ensures over { IfErr result (IsLimitAt k (path_limit (full_path (parent_in self.now (derived_of body.now))))) }
     {
         let Some(made) = derived_comm(body) else {
             return Ok(Known::Nothing);
@@ -215,7 +219,9 @@ impl Handles {
         requires members { HasMembers (derived_of call.now.body) }
         requires short { length (handles_of call.now.body) < 2 ^ 32 }
         requires clear { clear ≡ is_clear (facts_in self.now) call.now.body }
-        ensures { IfOk result (λ known. known ≡ known_made self.now class clear call.now.body) }
+        ensures known { IfOk result (λ known. known ≡ known_made self.now class clear call.now.body) }
+        ensures within { IfOk result (λ known. too_deep self.now class call.now.body ≡ false) }
+        ensures over { IfErr result (IsLimitAt k (path_limit (too_deep self.now class call.now.body))) }
     {
         match class {
             Class::Comm => self.comm_made(alloc, k, &call.body),
@@ -269,6 +275,8 @@ impl Handles {
         requires short { length (handles_of call.now.body) < 2 ^ 32 }
         requires clear { clear ≡ is_clear (facts_in self.old) call.now.body }
         ensures takes { OnOk result (TakesIn self.old clear call.now self.new.objects) }
+        ensures within { OnOk result (made_too_deep self.old (made_by call.now) call.now.body ≡ false) }
+        ensures over { IfErr result (IsLimitAt k (path_limit (made_too_deep self.old (made_by call.now) call.now.body))) }
         ensures lives { self.new.lives ≡ self.old.lives }
         ensures told { (self.new.rank ≡ self.old.rank) × (self.new.tag_ub ≡ self.old.tag_ub) }
     {
@@ -286,7 +294,8 @@ impl Handles {
         }
     }
 
-    /// Takes call `k`, the next; `clear` says whether it is. The handle that it makes, if any, has the next number.
+    /// Takes call `k`, the next; `clear` says whether it is. The handle that it makes, if any, has the next number. `TooWide`
+    /// comes exactly where the call reaches a limit (docs/FORMAT.md); what is known isn't to be asked any more then.
     pub fn take(
         &mut self,
         alloc: Global,
@@ -300,6 +309,8 @@ impl Handles {
         requires clear { clear ≡ is_clear (facts_in self.old) call.now.body }
         ensures stands { OnOk result ((r : Rank) (calls : List Call) → length calls ≡ k → HandlesStand r self.old calls → HandlesStand r self.new (calls ++ call.now ∷ [])) }
         ensures told { OnOk result ((self.new.rank ≡ self.old.rank) × (self.new.tag_ub ≡ self.old.tag_ub)) }
+        ensures within { OnOk result ((r : Rank) (calls : List Call) → HandlesStand r self.old calls → limit_at r calls call.now ≡ None) }
+        ensures over { IfErr result (λ fault. (r : Rank) (calls : List Call) → HandlesStand r self.old calls → IsLimitAt k (limit_at r calls call.now) fault) }
     {
         self.take_in(alloc, k, call, clear)?;
         self.lives.apply(k, call, clear)?;

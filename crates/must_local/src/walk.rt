@@ -1,6 +1,6 @@
 //! The walk over the calls of a rank.
 
-ghost use Rattle.std.specs.Prelude.{◌≡◌, true, ℕ, ◌&&◌, is_none, ◌+◌, ◌<◌, ◌≤◌, ◌^◌, ◌↔◌, List, [], ◌∷◌, ◌++◌, IfOk, OnOk, length};
+ghost use Rattle.std.specs.Prelude.{◌≡◌, true, ℕ, ◌&&◌, is_none, ◌+◌, ◌<◌, ◌≤◌, ◌^◌, ◌↔◌, List, [], ◌∷◌, ◌++◌, IfOk, IfErr, OnOk, None, length};
 ghost use Rattle.must_call.specs.declared.call.Call.{Call};
 ghost use Rattle.must_find.specs.declared.finding.Finding.{Finding};
 ghost use Rattle.must_base.specs.Listing.{Has, Rises};
@@ -8,10 +8,11 @@ ghost use Rattle.must_find.specs.Order.{by_all};
 ghost use Rattle.must_rules.specs.Local.{IsBehind, IsWhole};
 ghost use Rattle.must_call.specs.Handles.{handles_of};
 ghost use Rattle.must_rules.specs.Clear.{is_clear};
+ghost use Rattle.must_rules.specs.Limits.{limit_at};
 ghost use Rattle.must_rules.specs.Communicators.{derived_of};
 ghost use Rattle.must_handle.specs.Changes.{IsNext};
 ghost use Rattle.must_local.specs.Objects.{HasMembers};
-ghost use Rattle.must_local.specs.HandlesKnown.{facts_in};
+ghost use Rattle.must_local.specs.HandlesKnown.{IsLimitAt, facts_in};
 ghost use Rattle.must_local.specs.declared.batch.Batch.{Batch};
 ghost use Rattle.must_rules.specs.Search.{or_then, only_if};
 ghost use Rattle.must_local.specs.Adding.{RowsAt, RowsAtEnd};
@@ -133,6 +134,8 @@ impl RankWalk {
         requires clear { clear ≡ is_clear (facts_in self.old.handles) call.now.body }
         ensures knows { OnOk result ((version : ℕ) (calls : List Call) → Knows version self.old calls → Knows version self.new (calls ++ call.now ∷ [])) }
         ensures rank { OnOk result (self.new.rank ≡ self.old.rank) }
+        ensures within { OnOk result ((version : ℕ) (calls : List Call) → Knows version self.old calls → limit_at (rank_by version self.old.rank) calls call.now ≡ None) }
+        ensures over { IfErr result (λ fault. (version : ℕ) (calls : List Call) → Knows version self.old calls → IsLimitAt (length calls) (limit_at (rank_by version self.old.rank) calls call.now) fault) }
     {
         let number = self.number;
         self.handles.take(self.alloc, number, call, clear)?;
@@ -154,11 +157,13 @@ impl RankWalk {
             && call.handle(u32::MAX).is_none()
     }
 
-    /// Takes the next call, and gives its batch.
+    /// Takes the next call, and gives its batch. `TooWide` comes exactly where the call reaches a limit (docs/FORMAT.md, "Limits");
+    /// the walk isn't to be used any more then.
     pub fn step(&mut self, call: &Call) -> Result<Batch, WalkFault>
         requires { MayStep self.old call.now }
         ensures walks { IfOk result (λ batch. (version : ℕ) (calls : List Call) (given : List Batch) → Walks version self.old calls given → Walks version self.new (calls ++ call.now ∷ []) (given ++ batch ∷ [])) }
         ensures rank { OnOk result (self.new.rank ≡ self.old.rank) }
+        ensures over { IfErr result (λ fault. (version : ℕ) (calls : List Call) (given : List Batch) → Walks version self.old calls given → IsLimitAt (length calls) (limit_at (rank_by version self.old.rank) calls call.now) fault) }
     {
         let judged = self.judge(call)?;
         let entries = row_entries(self.alloc, judged.rows.as_slice())?;

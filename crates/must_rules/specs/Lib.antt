@@ -1,5 +1,7 @@
 pub mod Run
 pub mod Streams
+pub mod Limits
+pub mod LimitLaws
 pub mod Answer
 pub mod StreamRuns
 pub mod Search

@@ -13,8 +13,8 @@ use Rattle.must_base.specs.Views.{SourceView}
 use Rattle.must_call.specs.declared.call.Call.{Call}
 use Rattle.must_format.specs.declared.fault.StreamFault.{StreamFault}
 use Rattle.must_format.specs.declared.fault.StreamFault.TheVariants as fault
-use Rattle.must_format.specs.Stream.{Accepted}
-use Rattle.must_format.specs.StreamLaws.{accepted_is_one}
+use Rattle.must_rules.specs.Streams.{Accepted}
+use Rattle.must_rules.specs.LimitLaws.{accepted_is_one}
 use Rattle.must_find.specs.declared.finding.Finding.{Finding}
 use Rattle.must_find.specs.Order.{by_all}
 use Rattle.must_rules.specs.Run.{size_of}

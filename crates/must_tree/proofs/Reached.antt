@@ -1,5 +1,5 @@
 -- How far the stream of a rank was read.
-use Rattle.std.proofs.Common.{◌≡◌, ℕ, List, [], ◌∷◌, ◌++◌, Option, Some, None, Result, Ok, Err, refl, sym, ap, subst, ◌∙◌, inl, inr, append_assoc, append-nil}
+use Rattle.std.proofs.Common.{◌≡◌, ℕ, List, [], ◌∷◌, ◌++◌, length, Option, Some, None, Result, Ok, Err, refl, sym, ap, subst, ◌∙◌, inl, inr, append_assoc, append-nil}
 use Rattle.std.specs.Prelude.{ℤ, IfErr}
 use Rattle.std.specs.Option.{option_map}
 use Rattle.must_call.specs.declared.call.Call.{Call}
@@ -8,16 +8,24 @@ use Rattle.must_format.specs.declared.fault.StreamFault.TheVariants as fault
 use Rattle.must_format.specs.declared.cause.Cause.TheVariants as cause
 use Rattle.must_format.specs.declared.expect.Expect.{Expect}
 use Rattle.must_format.specs.declared.header.Header.{Header}
-use Rattle.must_format.specs.Stream.{IsStream, BodyReading, Accepted, Refused, whose, header_fault, header_of, header_past, tag_ub_of, version_of}
-use Rattle.must_format.specs.StreamLaws.{accepted_or_refused, refused_is_one}
+use Rattle.must_format.specs.Stream.{IsStream, AreCalls, BodyReading, whose, header_fault, header_of, header_past, tag_ub_of, version_of}
 use Rattle.must_codec.specs.Reader.{Phase, ReaderState, Stands, StandsFor, ShowsNone, Gave, Fresh, Before, Ended, Failed}
 use Rattle.must_codec.specs.Views.{IsBefore, IsOpen, Leaves}
 use Rattle.must_find.specs.declared.finding.Finding.{Finding}
 use Rattle.must_find.specs.Adds.{Adds}
+use Rattle.must_rules.specs.Rank.{Rank}
+use Rattle.must_rules.specs.Limits.{limit_at, IsWithin}
+use Rattle.must_rules.specs.LimitLaws.{within_none, accepted_or_refused, bad_is_one}
+use Rattle.must_rules.specs.Streams.{rank_told, Refused}
 use Rattle.must_rules.specs.Local.{IsLocal}
+use Rattle.must_format.specs.declared.cause.Limit.{Limit}
+use Rattle.must_local.specs.declared.batch.Batch.{Batch}
+use Rattle.must_local.specs.declared.fault.WalkFault.{WalkFault}
+use Rattle.must_local.specs.declared.fault.WalkFault.TheVariants as walk_fault
+use Rattle.must_local.specs.HandlesKnown.{IsLimitAt}
 use Rattle.must_local.specs.Walks.{RankTold, rank_by, WalkState, Walks}
 use Rattle.must_tree.specs.Told.{IsLeftOf, IsTooShort}
-use Rattle.must_tree.specs.Ranks.{Gathers, ReadsRank, IsFaultOf}
+use Rattle.must_tree.specs.Ranks.{Gathers, ReadsRank, IsFaultOf, IsLimitFault}
 use Rattle.must_tree.specs.Beside.{Stood, Reached, told_by, Beside, Walked, AllTaken}
 use Rattle.must_tree.proofs.Gathering.{gathers_first}
 
@@ -37,7 +45,7 @@ all_parts taken rest bytes piece others e f = append_assoc taken piece others �
 pub reached_more : (bytes : List ℕ) (left left' : Option (List ℕ)) (old new : ReaderState) (calls : List Call) (next : Option Call) → Given old new left left' (Ok next) → IsOpen old.phase → Stood bytes left old calls → Reached bytes left' new calls next
 reached_more bytes left left' old new calls (Some call) given «open» s =
     let got = given calls s.taken s.rest «open» s.left_is s.stands in
-    record { taken = s.taken ++ got.piece; rest = got.others; left_is = got.left_is; parts = all_parts s.taken s.rest bytes got.piece got.others s.parts got.parts; stands = got.answer.0 }
+    (record { taken = s.taken ++ got.piece; rest = got.others; left_is = got.left_is; parts = all_parts s.taken s.rest bytes got.piece got.others s.parts got.parts; stands = got.answer.0 }, got.answer.1)
 reached_more bytes left left' old new calls None given «open» s =
     let got = given calls s.taken s.rest «open» s.left_is s.stands in (
       record { taken = s.taken ++ got.piece; rest = got.others; left_is = got.left_is; parts = all_parts s.taken s.rest bytes got.piece got.others s.parts got.parts; stands = got.answer.0 },
@@ -49,7 +57,7 @@ pub left_stood : (bytes : List ℕ) (left : Option (List ℕ)) (reader : ReaderS
 left_stood bytes left reader calls s = (s.taken, s.rest, s.left_is, sym s.parts)
 
 pub left_reached : (bytes : List ℕ) (left : Option (List ℕ)) (reader : ReaderState) (calls : List Call) (next : Option Call) → Reached bytes left reader calls next → IsLeftOf bytes left
-left_reached bytes left reader calls (Some call) s = left_stood bytes left reader (calls ++ call ∷ []) s
+left_reached bytes left reader calls (Some call) s = left_stood bytes left reader (calls ++ call ∷ []) s.0
 left_reached bytes left reader calls None s = left_stood bytes left reader calls s.0
 
 pub left_behind : (bytes : List ℕ) (left left' : Option (List ℕ)) (old new : ReaderState) (calls : List Call) (result : Result (Option Call) StreamFault) → Stood bytes left old calls → Given old new left left' result → IsOpen old.phase → IsLeftOf bytes left'
@@ -111,7 +119,7 @@ whole_taken taken rest bytes left is none parts = sym (append-nil taken) ∙ ap 
     same xs e = cc
 
 pub header_is : (bytes : List ℕ) (left : Option (List ℕ)) (r : ReaderState) (calls : List Call) (next : Option Call) → Leaves r.phase (Ok next) → Reached bytes left r calls next → r.header ≡ Some (header_of bytes)
-header_is bytes left r calls (Some call) leaves s = header_before r.phase r bytes s.taken s.rest (calls ++ call ∷ []) s.parts leaves s.stands
+header_is bytes left r calls (Some call) leaves s = header_before r.phase r bytes s.0.taken s.0.rest (calls ++ call ∷ []) s.0.parts leaves s.0.stands
 header_is bytes left r calls None leaves s =
     let ended = at_phase r Ended s.0.taken calls leaves s.0.stands in
     ended.1 ∙ good_header (header_fault r.expect s.0.taken) s.0.taken calls ended.0 ∙ ap (λ (b : List ℕ). Some (header_of b)) (whole_taken s.0.taken s.0.rest bytes left s.0.left_is s.1 s.0.parts)
@@ -145,8 +153,11 @@ begun rank n tag bytes left left' e old new next w fs left_is fresh given leaves
 abbrev Took : WalkState → WalkState → Call → List Finding → List Finding → Type 0
 Took w v call old new = (told : RankTold) (calls : List Call) (first : List Finding) → Gathers told w calls first old → Gathers told v (calls ++ call ∷ []) first new
 
+pub call_reached : (bytes : List ℕ) (left : Option (List ℕ)) (reader : ReaderState) (calls : List Call) (next : Option Call) (call : Call) → next ≡ Some call → Reached bytes left reader calls next → Reached bytes left reader calls (Some call)
+call_reached bytes left reader calls next call is s = subst (λ (o : Option Call). Reached bytes left reader calls o) is s
+
 stood_call : (bytes : List ℕ) (left : Option (List ℕ)) (reader : ReaderState) (calls : List Call) (next : Option Call) (call : Call) → next ≡ Some call → Reached bytes left reader calls next → Stood bytes left reader (calls ++ call ∷ [])
-stood_call bytes left reader calls next call is s = subst (λ (o : Option Call). Reached bytes left reader calls o) is s
+stood_call bytes left reader calls next call is s = (call_reached bytes left reader calls next call is s).0
 
 -- a call more
 pub beside_more : (rank n : ℕ) (bytes : List ℕ) (left left' : Option (List ℕ)) (old new : ReaderState) (next : Option Call) (call : Call) (w v : WalkState) (first fs gs : List Finding)
@@ -166,16 +177,23 @@ beside_first rank n bytes left reader next call w v first fs gs is took k = reco
   gathers = took (told_by rank n bytes) k.calls first k.gathers;
 }
 
+-- the calls that a walk took reach no limit
+pub within_gathered : (rank n : ℕ) (bytes : List ℕ) (w : WalkState) (calls : List Call) (first fs : List Finding) → Gathers (told_by rank n bytes) w calls first fs → IsWithin (rank_told rank n bytes) calls
+within_gathered rank n bytes w calls first fs g = subst (λ (t : RankTold). IsWithin (rank_by (version_of bytes) t) calls) g.rank_is (g.walks (version_of bytes)).within
+
 -- the end
 pub walked_all : (rank n : ℕ) (bytes : List ℕ) (left : Option (List ℕ)) (reader : ReaderState) (next : Option Call) (w : WalkState) (first fs : List Finding)
     → next ≡ None → reader.expect ≡ whose rank n → Leaves reader.phase (Ok next) → Walked rank n bytes left reader next w first fs → AllTaken rank n bytes left w first fs
 walked_all rank n bytes left reader next w first fs is expect leaves k =
     let s = subst (λ (o : Option Call). Reached bytes left reader k.calls o) is k.reached in
     let ended = at_phase reader Ended s.0.taken k.calls (subst (λ (o : Option Call). Leaves reader.phase (Ok o)) is leaves) s.0.stands in
-    let here : Accepted rank n s.0.taken k.calls = subst (λ (e : Option Expect). IsStream e s.0.taken k.calls None) expect ended.0 in
+    let here : IsStream (whose rank n) s.0.taken k.calls None = subst (λ (e : Option Expect). IsStream e s.0.taken k.calls None) expect ended.0 in
     record {
       calls = k.calls;
-      accepted = subst (λ (xs : List ℕ). Accepted rank n xs k.calls) (whole_taken s.0.taken s.0.rest bytes left s.0.left_is s.1 s.0.parts) here;
+      accepted = record {
+        complete = subst (λ (xs : List ℕ). IsStream (whose rank n) xs k.calls None) (whole_taken s.0.taken s.0.rest bytes left s.0.left_is s.1 s.0.parts) here;
+        within = within_gathered rank n bytes w k.calls first fs k.gathers;
+      };
       left_is = s.1;
       gathers = k.gathers;
     }
@@ -208,29 +226,86 @@ open_unfailed phase «open» f e = subst (λ (p : Phase). IsOpen p) e «open»
 
 -- ---- faults
 
--- bytes that show nothing wrong but their end
-shows_none : (rank n : ℕ) (taken : List ℕ) (calls : List Call) → ShowsNone (whose rank n) taken calls → (f : StreamFault) → Refused rank n taken f → IsTooShort f
-shows_none rank n taken calls (inl accepted) f refused = absurd (accepted_or_refused rank n taken calls f accepted refused)
-shows_none rank n taken calls (inr short) f refused = (short.0, refused_is_one rank n taken f (fault.Malformed short.0 cause.Truncated) refused (calls, short.1))
+-- bytes that show nothing wrong but their end, behind calls that reach no limit
+shows_none : (rank n : ℕ) (taken : List ℕ) (calls : List Call) → ShowsNone (whose rank n) taken calls → IsWithin (rank_told rank n taken) calls → (f : StreamFault) → Refused rank n taken f → IsTooShort f
+shows_none rank n taken calls (inl complete) within f refused = absurd (accepted_or_refused rank n taken calls f (record { complete = complete; within = within }) refused)
+shows_none rank n taken calls (inr short) within f refused = (short.0, bad_is_one rank n taken calls (fault.Malformed short.0 cause.Truncated) f short.1 within refused)
+
+header_told : (rank n : ℕ) (a b : List ℕ) → header_of a ≡ header_of b → rank_told rank n a ≡ rank_told rank n b
+header_told rank n a b e = ap (λ (h : Header). record { rank = rank; size = n; version = h.version; tag_ub = h.tag_ub }) e
+
+-- what is known of a rank by the bytes that were taken is what is known by all, once a call was given
+within_taken : (rank n : ℕ) (phase : Phase) (r : ReaderState) (taken piece others bytes : List ℕ) (calls : List Call) → IsOpen phase → Stands phase r taken calls → (taken ++ piece) ++ others ≡ bytes
+    → IsWithin (rank_told rank n bytes) calls → IsWithin (rank_told rank n (taken ++ piece)) calls
+within_taken rank n Fresh r taken piece others bytes calls «open» s all within = subst (IsWithin (rank_told rank n (taken ++ piece))) (sym s.0) (within_none (rank_told rank n (taken ++ piece)))
+within_taken rank n (Before p) r taken piece others bytes calls «open» s all within =
+    let whole : header_of bytes ≡ s.header = ap header_of (sym all ∙ append_assoc taken piece others) ∙ s.opened.header (piece ++ others) in
+    subst (λ (t : Rank). IsWithin t calls) (header_told rank n bytes (taken ++ piece) (whole ∙ sym (s.opened.header piece))) within
+within_taken rank n Ended r taken piece others bytes calls «open» s all within = absurd «open»
+within_taken rank n (Failed f) r taken piece others bytes calls «open» s all within = absurd «open»
 
 fault_of : (rank n : ℕ) (bytes taken rest : List ℕ) (left : Option (List ℕ)) (new : ReaderState) (calls : List Call) (f : StreamFault) (g : Gave new left taken rest calls (Err f)) → (taken ++ g.piece) ++ g.others ≡ bytes → new.expect ≡ whose rank n → new.phase ≡ Failed f
-    → IsFaultOf rank n bytes left f
-fault_of rank n bytes taken rest left new calls (fault.Malformed at c) g all expect failed =
-    (calls, subst (λ (xs : List ℕ). IsStream (whose rank n) xs calls (Some (fault.Malformed at c))) all (subst (λ (e : Option Expect). IsStream e ((taken ++ g.piece) ++ g.others) calls (Some (fault.Malformed at c))) expect g.answer.1))
-fault_of rank n bytes taken rest left new calls (fault.Bound at l) g all expect failed =
-    (calls, subst (λ (xs : List ℕ). IsStream (whose rank n) xs calls (Some (fault.Bound at l))) all (subst (λ (e : Option Expect). IsStream e ((taken ++ g.piece) ++ g.others) calls (Some (fault.Bound at l))) expect g.answer.1))
-fault_of rank n bytes taken rest left new calls fault.Read g all expect failed =
+    → IsWithin (rank_told rank n bytes) calls → IsWithin (rank_told rank n (taken ++ g.piece)) calls → IsFaultOf rank n bytes left f
+fault_of rank n bytes taken rest left new calls (fault.Malformed at c) g all expect failed within front =
+    inl (record { calls = calls; stream = subst (λ (xs : List ℕ). IsStream (whose rank n) xs calls (Some (fault.Malformed at c))) all (subst (λ (e : Option Expect). IsStream e ((taken ++ g.piece) ++ g.others) calls (Some (fault.Malformed at c))) expect g.answer.1); within = within })
+fault_of rank n bytes taken rest left new calls (fault.Bound at l) g all expect failed within front =
+    inl (record { calls = calls; stream = subst (λ (xs : List ℕ). IsStream (whose rank n) xs calls (Some (fault.Bound at l))) all (subst (λ (e : Option Expect). IsStream e ((taken ++ g.piece) ++ g.others) calls (Some (fault.Bound at l))) expect g.answer.1); within = within })
+fault_of rank n bytes taken rest left new calls fault.Read g all expect failed within front =
     let here = at_phase new (Failed fault.Read) (taken ++ g.piece) calls failed g.answer in
     let shows : ShowsNone (whose rank n) (taken ++ g.piece) calls = subst (λ (e : Option Expect). ShowsNone e (taken ++ g.piece) calls) expect here.0 in
-    (taken ++ g.piece, g.others, g.left_is, sym all, shows_none rank n (taken ++ g.piece) calls shows)
-fault_of rank n bytes taken rest left new calls fault.NoMemory g all expect failed = tt
+    (taken ++ g.piece, g.others, g.left_is, sym all, shows_none rank n (taken ++ g.piece) calls shows front)
+fault_of rank n bytes taken rest left new calls fault.NoMemory g all expect failed within front = tt
 
--- a refusal
+-- a refusal by the reader
 pub stood_fault : (rank n : ℕ) (bytes : List ℕ) (left left' : Option (List ℕ)) (old new : ReaderState) (calls : List Call) (f : StreamFault)
-    → Given old new left left' (Err f) → IsOpen old.phase → new.expect ≡ whose rank n → new.phase ≡ Failed f → Stood bytes left old calls → IsFaultOf rank n bytes left' f
-stood_fault rank n bytes left left' old new calls f given «open» expect failed s =
+    → Given old new left left' (Err f) → IsOpen old.phase → new.expect ≡ whose rank n → new.phase ≡ Failed f → IsWithin (rank_told rank n bytes) calls → Stood bytes left old calls → IsFaultOf rank n bytes left' f
+stood_fault rank n bytes left left' old new calls f given «open» expect failed within s =
     let got = given calls s.taken s.rest «open» s.left_is s.stands in
-    fault_of rank n bytes s.taken s.rest left' new calls f got (all_parts s.taken s.rest bytes got.piece got.others s.parts got.parts) expect failed
+    let all = all_parts s.taken s.rest bytes got.piece got.others s.parts got.parts in
+    fault_of rank n bytes s.taken s.rest left' new calls f got all expect failed within (within_taken rank n old.phase old s.taken got.piece got.others bytes calls «open» s.stands all within)
+
+no_calls : (calls : List Call) (call : Call) {P : Type 0} → calls ++ call ∷ [] ≡ [] → P
+no_calls [] call e = absurd cc
+no_calls (c ∷ calls) call e = absurd cc
+
+record Opened (rank n : ℕ) (bytes : List ℕ) (given : List Call) : Type 0 where
+  header : header_fault (whose rank n) bytes ≡ None
+  calls : AreCalls bytes given
+
+opened : (rank n : ℕ) (phase : Phase) (r : ReaderState) (taken rest bytes : List ℕ) (calls : List Call) (call : Call) → r.expect ≡ whose rank n → IsOpen phase → Stands phase r taken (calls ++ call ∷ []) → taken ++ rest ≡ bytes → Opened rank n bytes (calls ++ call ∷ [])
+opened rank n Fresh r taken rest bytes calls call expect «open» s parts = no_calls calls call s.0
+opened rank n (Before p) r taken rest bytes calls call expect «open» s parts = record {
+  header = subst (λ (e : Option Expect). header_fault e bytes ≡ None) expect (subst (λ (xs : List ℕ). header_fault r.expect xs ≡ None) parts (s.opened.good rest));
+  calls = subst (λ (xs : List ℕ). AreCalls xs (calls ++ call ∷ [])) parts (s.each rest);
+}
+opened rank n Ended r taken rest bytes calls call expect «open» s parts = absurd «open»
+opened rank n (Failed f) r taken rest bytes calls call expect «open» s parts = absurd «open»
+
+-- a walk's limit, as it is told of the rank
+pub limit_told : (told : RankTold) (w : WalkState) (version : ℕ) (calls : List Call) (call : Call) (first fs : List Finding) (f : WalkFault) (k : ℕ) (l : Limit) → Gathers told w calls first fs
+    → ((v : ℕ) (cs : List Call) (given : List Batch) → Walks v w cs given → IsLimitAt (length cs) (limit_at (rank_by v w.rank) cs call) f) → f ≡ walk_fault.TooWide k l → limit_at (rank_by version told) calls call ≡ Some l
+limit_told told w version calls call first fs f k l g over is =
+    let here : IsLimitAt (length calls) (limit_at (rank_by version w.rank) calls call) (walk_fault.TooWide k l) = subst (λ (x : WalkFault). IsLimitAt (length calls) (limit_at (rank_by version w.rank) calls call) x) is (over version calls g.given (g.walks version)) in
+    subst (λ (t : RankTold). limit_at (rank_by version t) calls call ≡ Some l) g.rank_is here.1
+
+-- a limit that the call reaches which the reader gave last
+pub limit_fault : (rank n : ℕ) (bytes : List ℕ) (left : Option (List ℕ)) (reader : ReaderState) (calls : List Call) (call : Call) (f : StreamFault) → IsOpen reader.phase → reader.expect ≡ whose rank n
+    → Reached bytes left reader calls (Some call) → IsWithin (rank_told rank n bytes) calls → IsLimitFault (limit_at (rank_told rank n bytes) calls call) reader.at f → IsFaultOf rank n bytes left f
+limit_fault rank n bytes left reader calls call (fault.Malformed at c) «open» expect s within over = absurd over
+limit_fault rank n bytes left reader calls call (fault.Bound at l) «open» expect s within over =
+    let o = opened rank n reader.phase reader s.0.taken s.0.rest bytes calls call expect «open» s.0.stands s.0.parts in
+    inr (record {
+      before = calls;
+      call = call;
+      limit = l;
+      header = o.header;
+      calls = o.calls;
+      within = within;
+      reached = over.1;
+      fault_is = ap (λ (m : ℕ). fault.Bound m l) (over.0 ∙ s.1);
+    })
+limit_fault rank n bytes left reader calls call fault.Read «open» expect s within over = absurd over
+limit_fault rank n bytes left reader calls call fault.NoMemory «open» expect s within over = tt
 
 -- what holds of the error holds of the result that hands it on
 pub handed_on : (result : Result (Unit {0}) StreamFault) (given fault : StreamFault) (P : StreamFault → Type 0) → result ≡ Err given → given ≡ fault → P fault → IfErr result P

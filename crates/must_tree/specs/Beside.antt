@@ -1,7 +1,9 @@
 -- How far the stream of a rank was read and walked over.
 use Rattle.std.specs.Prelude.{◌≡◌, ℕ, List, [], ◌∷◌, ◌++◌, Option, Some, None}
 use Rattle.must_call.specs.declared.call.Call.{Call}
-use Rattle.must_format.specs.Stream.{Accepted, tag_ub_of}
+use Rattle.must_format.specs.Payload.{offset_behind}
+use Rattle.must_format.specs.Stream.{tag_ub_of}
+use Rattle.must_rules.specs.Streams.{Accepted}
 use Rattle.must_codec.specs.Reader.{ReaderState, StandsFor}
 use Rattle.must_find.specs.declared.finding.Finding.{Finding}
 use Rattle.must_local.specs.Walks.{RankTold, WalkState}
@@ -15,9 +17,9 @@ pub record Stood (bytes : List ℕ) (left : Option (List ℕ)) (reader : ReaderS
   pub parts : taken ++ rest ≡ bytes
   pub stands : StandsFor reader taken calls
 
--- and then this one, or the end
+-- and then this one, whose record stands behind theirs, or the end
 abbrev pub Reached : List ℕ → Option (List ℕ) → ReaderState → List Call → Option Call → Type 0
-Reached bytes left reader calls (Some call) = Stood bytes left reader (calls ++ call ∷ [])
+Reached bytes left reader calls (Some call) = Stood bytes left reader (calls ++ call ∷ []) × (reader.at ≡ offset_behind calls)
 Reached bytes left reader calls None = Stood bytes left reader calls × (left ≡ Some [])
 
 -- what a walk is told of a rank of n whose stream has these bytes
@@ -36,7 +38,7 @@ pub record Walked (rank n : ℕ) (bytes : List ℕ) (left : Option (List ℕ)) (
   pub reached : Reached bytes left reader calls next
   pub gathers : Gathers (told_by rank n bytes) w calls first fs
 
--- the stream is complete, and the walk took all its calls
+-- the stream is accepted, and the walk took all its calls
 pub record AllTaken (rank n : ℕ) (bytes : List ℕ) (left : Option (List ℕ)) (w : WalkState) (first fs : List Finding) : Type 0 where
   pub calls : List Call
   pub accepted : Accepted rank n bytes calls

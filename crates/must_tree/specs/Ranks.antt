@@ -1,13 +1,13 @@
 -- What reading the stream of one rank says.
-use Rattle.std.specs.Prelude.{◌≡◌, ℕ, List, Option}
+use Rattle.std.specs.Prelude.{◌≡◌, ℕ, List, Option, Some}
 use Rattle.must_base.specs.Listing.{Has}
 use Rattle.must_call.specs.declared.call.Call.{Call}
 use Rattle.must_format.specs.declared.fault.StreamFault.{StreamFault}
 use Rattle.must_format.specs.declared.fault.StreamFault.TheVariants as fault
-use Rattle.must_format.specs.Stream.{Accepted, Refused}
+use Rattle.must_format.specs.declared.cause.Limit.{Limit}
 use Rattle.must_find.specs.declared.finding.Finding.{Finding}
 use Rattle.must_rules.specs.Run.{Run, Mode}
-use Rattle.must_rules.specs.Streams.{Records, recorded_of}
+use Rattle.must_rules.specs.Streams.{Accepted, Refused, Records, recorded_of}
 use Rattle.must_find.specs.Adds.{Adds}
 use Rattle.must_rules.specs.Local.{IsLocal}
 use Rattle.must_rules.specs.RunRows.{rank_in, HasRanksBelow}
@@ -24,7 +24,7 @@ pub record Gathers (told : RankTold) (w : WalkState) (calls : List Call) (old ne
   pub adds : Adds old new (Has (all_rows given))
   pub rank_is : w.rank ≡ told
 
--- the stream of a rank of n is complete, and its rows were added
+-- the stream of a rank of n is accepted, and its rows were added
 pub record ReadsRank (rank n : ℕ) (bytes : List ℕ) (old new : List Finding) : Type 0 where
   pub calls : List Call
   pub accepted : Accepted rank n bytes calls
@@ -36,6 +36,13 @@ IsFaultOf rank n bytes left (fault.Malformed at cause) = Refused rank n bytes (f
 IsFaultOf rank n bytes left (fault.Bound at limit) = Refused rank n bytes (fault.Bound at limit)
 IsFaultOf rank n bytes left fault.Read = ShowsNoRefusal rank n bytes left
 IsFaultOf rank n bytes left fault.NoMemory = Unit {0}
+
+-- what stops a walk at the call whose record stands at this offset: the limit that it reaches, or want of memory
+abbrev pub IsLimitFault : Option Limit → ℕ → StreamFault → Type 0
+IsLimitFault reached offset (fault.Malformed at cause) = ⊥
+IsLimitFault reached offset (fault.Bound at limit) = (at ≡ offset) × (reached ≡ Some limit)
+IsLimitFault reached offset fault.Read = ⊥
+IsLimitFault reached offset fault.NoMemory = Unit {0}
 
 -- the rows of the ranks below this one, in each run that the streams record
 abbrev pub HasRowsBelow : List (List ℕ) → ℕ → List Finding → Type 0

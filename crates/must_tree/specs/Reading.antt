@@ -5,21 +5,20 @@ use Rattle.must_base.specs.Views.{SourceView}
 use Rattle.must_call.specs.declared.call.Call.{Call}
 use Rattle.must_format.specs.declared.fault.StreamFault.{StreamFault}
 use Rattle.must_format.specs.declared.fault.StreamFault.TheVariants as fault
-use Rattle.must_format.specs.Stream.{Accepted, Refused}
 use Rattle.must_find.specs.declared.finding.Finding.{Finding}
 use Rattle.must_rules.specs.Run.{Run, Mode}
 use Rattle.must_rules.specs.RunRows.{IsRows}
-use Rattle.must_rules.specs.Streams.{Records}
+use Rattle.must_rules.specs.Streams.{Accepted, Refused, Records}
 use Rattle.must_tree.specs.declared.fault.RunFault.{RunFault}
 use Rattle.must_tree.specs.declared.fault.RunFault.TheVariants as run_fault
 use Rattle.must_tree.specs.Told.{told_at, HasFailed, ShowsNoRefusal}
 
--- the stream of a rank is complete
+-- the stream of a rank is accepted
 abbrev pub IsAccepted : List (Option (List ℕ)) → ℕ → Type 0
 IsAccepted told rank = (bytes : List ℕ) → told_at told rank ≡ Some bytes
     → (calls : List Call) × Accepted rank (length told) bytes calls
 
--- those of all ranks below this one are complete
+-- those of all ranks below this one are accepted
 abbrev pub AreAccepted : List (Option (List ℕ)) → ℕ → Type 0
 AreAccepted told rank = (lower : ℕ) → lower < rank → IsAccepted told lower
 
@@ -38,7 +37,7 @@ pub record RunRows (streams : List (List ℕ)) (rows : List Finding) : Type 0 wh
   pub records : Records streams run
   pub are_rows : (mode : Mode) → IsRows run mode rows
 
--- Every stream was read to its end and is complete, and these are the rows of the run.
+-- Every stream was read to its end and is accepted, and these are the rows of the run.
 pub record ReadsRun (told : List (Option (List ℕ))) (parts : List SourceView) (rows : List Finding) : Type 0 where
   pub accepted : AreAccepted told (length told)
   pub read : (rank : ℕ) (bytes : List ℕ) → told_at told rank ≡ Some bytes
@@ -54,7 +53,7 @@ StopsAt told parts rank fault.Read = (part : SourceView) × (slice_get parts ran
     × ((bytes : List ℕ) → told_at told rank ≡ Some bytes → ShowsNoRefusal rank (length told) bytes part.left)
 StopsAt told parts rank fault.NoMemory = ⊥
 
--- A rank stops the check: the streams of all lower ranks are complete.
+-- A rank stops the check: the streams of all lower ranks are accepted.
 pub record Stops (told : List (Option (List ℕ))) (parts : List SourceView) (rank : ℕ) (fault : StreamFault) : Type 0 where
   pub within : rank < length told
   pub lower : AreAccepted told rank

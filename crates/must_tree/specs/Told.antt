@@ -5,7 +5,7 @@ use Rattle.must_base.specs.Views.{SourceView}
 use Rattle.must_format.specs.declared.cause.Cause.TheVariants as cause
 use Rattle.must_format.specs.declared.fault.StreamFault.{StreamFault}
 use Rattle.must_format.specs.declared.fault.StreamFault.TheVariants as fault
-use Rattle.must_format.specs.Stream.{Refused}
+use Rattle.must_rules.specs.Streams.{Refused}
 
 -- the count of a part, which begins at 0, has risen
 abbrev pub HasFailed : SourceView → Type 0

@@ -6,11 +6,12 @@ ghost use Rattle.must_base.specs.Causes.{Rose};
 ghost use Rattle.must_call.specs.declared.call.Call.{Call};
 ghost use Rattle.must_format.specs.declared.limits.TheConstants.{MOST_RANKS};
 ghost use Rattle.must_find.specs.declared.finding.Finding.{Finding};
+ghost use Rattle.must_rules.specs.Limits.{limit_at};
 ghost use Rattle.must_rules.specs.Local.{IsLocal};
 ghost use Rattle.must_find.specs.Adds.{Adds};
 ghost use Rattle.must_local.specs.Walks.{RankTold, rank_by};
 ghost use Rattle.must_tree.specs.Told.{IsLeftOf};
-ghost use Rattle.must_tree.specs.Ranks.{Gathers, ReadsRank, IsFaultOf};
+ghost use Rattle.must_tree.specs.Ranks.{Gathers, ReadsRank, IsFaultOf, IsLimitFault};
 ghost use Rattle.must_tree.specs.Beside.{Beside, Walked, AllTaken};
 ghost use Rattle.must_codec.specs.Views.{IsOpen, Leaves};
 ghost use Rattle.must_format.specs.Stream.{whose};
@@ -21,25 +22,35 @@ use must_call::Call;
 use must_codec::StreamReader;
 use must_find::Findings;
 use must_format::{Expect, LEAST_TAG_UB, StreamFault};
-use must_local::RankWalk;
+use must_local::{RankWalk, WalkFault};
 use std::alloc::Global;
 
-/// Takes the next call of a rank's stream, and adds its rows.
-fn take_call(walk: &mut RankWalk, findings: &mut Findings, call: &Call) -> Result<(), NoMemory>
-    ensures { OnOk result ((told : RankTold) (calls : List Call) (first : List Finding) → Gathers told walk.old calls first findings.old
+/// Takes the next call of a rank's stream, and adds its rows. Where the call reaches a limit, the fault has the offset of its
+/// record, `at`.
+fn take_call(
+    walk: &mut RankWalk,
+    findings: &mut Findings,
+    at: u64,
+    call: &Call,
+) -> Result<(), StreamFault>
+    ensures took { OnOk result ((told : RankTold) (calls : List Call) (first : List Finding) → Gathers told walk.old calls first findings.old
         → Gathers told walk.new (calls ++ call.now ∷ []) first findings.new) }
+    ensures over { IfErr result (λ fault. (told : RankTold) (version : ℕ) (calls : List Call) (first : List Finding) → Gathers told walk.old calls first findings.old
+        → IsLimitFault (limit_at (rank_by version told) calls call.now) at fault) }
+    ensures unread { result ≡ Err StreamFault.Read → ⊥ }
 {
-    // A reader judges the numbers of handles, and gives at most 8,388,608 calls; where its source tells no bytes, no clause says so.
+    // A reader judges the numbers of handles and the members of communicators, and gives at most 8,388,608 calls; where its
+    // source tells no bytes, no clause says so.
     if !walk.may_step(call) {
-        return Err(NoMemory);
+        return Err(StreamFault::NoMemory);
     }
     match walk.step(call) {
         Ok(batch) => {
             add_rows(findings, batch.entries.items())?;
             Ok(())
         }
-        // No call reaches a limit of a walk so far.
-        Err(_) => Err(NoMemory),
+        Err(WalkFault::TooWide { limit, .. }) => Err(StreamFault::Bound { at, limit }),
+        Err(WalkFault::NoMemory) => Err(StreamFault::NoMemory),
     }
 }
 
@@ -86,7 +97,7 @@ fn read_calls<S: Source>(
         let next = reader.next(alloc, src)?;
         match next {
             None => return Ok(()),
-            Some(call) => take_call(walk, findings, &call)?,
+            Some(call) => take_call(walk, findings, reader.at(), &call)?,
         }
     }
     // A stream has at most 8,388,608 calls.
@@ -116,7 +127,7 @@ fn walk_stream<S: Source>(
     match first_call {
         None => Ok(()),
         Some(call) => {
-            take_call(walk, findings, &call)?;
+            take_call(walk, findings, reader.at(), &call)?;
             read_calls(alloc, expect, src, reader, walk, findings)
         }
     }

@@ -3,6 +3,7 @@ use Rattle.std.specs.Int.{w32}
 use Rattle.std.specs.Prelude.{FitsSigned}
 use Rattle.std.proofs.lemmas.Int.{to_z-of_z}
 use Rattle.std.proofs.lemmas.Result.{err_from_is_err_and}
+use Rattle.must_rules.specs.LimitLaws.{within_none}
 use Rattle.must_tree.specs.Ranks.{IsFaultOf}
 use Rattle.must_tree.proofs.Reached.{begun, told_tag, taken_reads, stood_fault, fresh_stood, fresh_open, left_behind, handed_on}
 use Rattle.must_tree.proofs.rank.read_rank.Goals as goal
@@ -13,7 +14,7 @@ returns-in_err-next-clause-refused g c =
     handed_on c.from_residual-in_err-next.result p.0 c.in_err-next.field-0.0
     (λ fault. (bytes : List ℕ) → g.S.Source.left c.args.src.now ≡ Some bytes → IsFaultOf c.args.expect.rank c.args.expect.size bytes (g.S.Source.left c.next.new.src) fault) p.1 p.2
     (λ bytes e. stood_fault c.args.expect.rank c.args.expect.size bytes (g.S.Source.left c.args.src.now) (g.S.Source.left c.next.new.src) c.in_ok-reader.reader c.next.new.self [] c.in_err-next.field-0.0
-    c.in_err-next.ensures.given (fresh_open c.in_ok-reader.reader _ c.in_ok-reader.ensures) (c.in_err-next.ensures.whose ∙ ap (λ r. r.expect) c.in_ok-reader.ensures) c.in_err-next.ensures.phase
+    c.in_err-next.ensures.given (fresh_open c.in_ok-reader.reader _ c.in_ok-reader.ensures) (c.in_err-next.ensures.whose ∙ ap (λ r. r.expect) c.in_ok-reader.ensures) c.in_err-next.ensures.phase (within_none _)
     (fresh_stood bytes (g.S.Source.left c.args.src.now) c.in_ok-reader.reader _ e c.in_ok-reader.ensures))
 
 pub returns-in_err-next-clause-tied : goal.returns-in_err-next-clause-tied

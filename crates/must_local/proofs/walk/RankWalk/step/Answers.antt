@@ -1,9 +1,25 @@
 use Rattle.std.proofs.Common.{refl, ap, ◌∙◌}
 use Rattle.must_local.specs.Walks.{WalkState}
+use Rattle.std.proofs.Common.{ℕ, List, length}
+use Rattle.std.proofs.lemmas.Result.{err_from_is_err_and}
+use Rattle.must_call.specs.declared.call.Call.{Call}
+use Rattle.must_rules.specs.Limits.{limit_at}
+use Rattle.must_local.specs.declared.batch.Batch.{Batch}
+use Rattle.must_local.specs.HandlesKnown.{IsLimitAt}
+use Rattle.must_local.specs.Walks.{rank_by, Walks}
+use Rattle.must_local.proofs.Facing.{handed_on}
 use Rattle.must_local.proofs.Walked.{walks_more}
 use Rattle.must_local.proofs.walk.RankWalk.step.Goals as goal
 
 pub returns-clause-walks : goal.returns-clause-walks
 returns-clause-walks c = λ version calls given walks.
-    walks_more version c.args.self.now c.take.new.self calls c.args.call.now given _ c.in_ok-judged.judged.rows (c.in_ok-take.ensures.knows version calls walks.knows) c.in_ok-take.ensures.rank
+    walks_more version c.args.self.now c.take.new.self calls c.args.call.now given _ c.in_ok-judged.judged.rows (c.in_ok-take.ensures.knows version calls walks.knows) (c.in_ok-take.ensures.within version calls walks.knows) c.in_ok-take.ensures.rank
     (c.in_ok-judged.ensures.rows version calls walks.knows) (c.in_ok-entries.ensures ∙ c.as_slice.ensures.items) (ap (λ (w : WalkState). w.rank.rank) c.self.view_is) refl walks
+
+pub returns-in_err-take-clause-over : goal.returns-in_err-take-clause-over
+returns-in_err-take-clause-over c =
+    let p = err_from_is_err_and c.from_residual-in_err-take.result c.from_residual-in_err-take.ensures.1 in
+    let f = c.in_err-take.field-0.0 in
+    let call = c.args.call.now in
+    handed_on c.from_residual-in_err-take.result p.0 f (λ fault. (version : ℕ) (calls : List Call) (given : List Batch) → Walks version c.args.self.now calls given → IsLimitAt (length calls) (limit_at (rank_by version c.args.self.now.rank) calls call) fault) p.1 p.2
+    (λ version calls given walks. c.in_err-take.ensures.over version calls walks.knows)
