@@ -71,7 +71,7 @@ there_first class h x y same =
     elim (cases_lt h 64) [
       | inl low ↦ ap (there (life [] class h)) (same low)
       | inr high ↦ (let never : life [] class h ≡ Never = life_first class h ∙ ap (λ b. cond b Predefined Never) (made_number class h high) in
-        ap (λ l. there l x) never ∙ sym (ap (λ l. there l y) never))
+          ap (λ l. there l x) never ∙ sym (ap (λ l. there l y) never))
     ]
 
 or_false : (b : Bool) → (b || false) ≡ b

@@ -28,7 +28,7 @@ pub marked_more : (marks : List Bool) (xs : List ℕ) (i m : ℕ) → i < length
     → (k : ℕ) → k < length marks → get_or (set marks m true) k false ≡ is_member nat_eq (take (i + 1) xs) k
 marked_more marks xs i m within there is old k below =
     let more : is_member nat_eq (take (i + 1) xs) k ≡ (is_member nat_eq (take i xs) k || nat_eq k m) =
-        list_any_more (nat_eq k) xs i 0 within ∙ ap (λ n. is_member nat_eq (take i xs) k || nat_eq k n) is in
+    list_any_more (nat_eq k) xs i 0 within ∙ ap (λ n. is_member nat_eq (take i xs) k || nat_eq k n) is in
     elim (cases_eq k m) [
       | inl e ↦ subst (λ n. get_or (set marks m true) n false ≡ true) (sym e) (get_or-set_same marks m true false there) ∙ sym (more ∙ ap (λ b. is_member nat_eq (take i xs) k || b) (eq-eqb k m e) ∙ or_true (is_member nat_eq (take i xs) k))
       | inr apart ↦ get_or-set_other marks m k true false apart ∙ old k below ∙ sym (more ∙ ap (λ b. is_member nat_eq (take i xs) k || b) (unequal k m (nat_eq k m) refl apart) ∙ or_false (is_member nat_eq (take i xs) k))

@@ -144,7 +144,7 @@ counted_stays : (r : Rank) (calls : List Call) (call : Call) (h : ℕ) → makes
 counted_stays r calls call h none =
     ap (λ (c : ℕ). option_map (counted c) (name_of r (calls ++ call ∷ []) h)) (collectives_more calls call h)
     ∙ ap (λ (n : Option Name). option_map (counted (cond (is_collective_on h call && is_there (life calls Comm h)) (suc (collectives calls h)) (collectives calls h))) n)
-      (name_more r calls call h ∙ ap (λ b. cond b (derived_name (usable_name r calls) (collectives calls) (derived_of call.body)) (name_of r calls h)) none)
+    (name_more r calls call h ∙ ap (λ b. cond b (derived_name (usable_name r calls) (collectives calls) (derived_of call.body)) (name_of r calls h)) none)
     ∙ counted_more (is_collective_on h call && is_there (life calls Comm h)) (collectives calls h) (name_of r calls h)
 
 comm_stays : (r : Rank) (calls : List Call) (call : Call) (old : Handles) (new : List Known) (h : ℕ) → HandlesStand r old calls → Stays old call new h → comm_in old.objects h ≡ counted_of r calls h → comm_in new h ≡ counted_of r (calls ++ call ∷ []) h
@@ -179,7 +179,7 @@ comm_comes : (r : Rank) (calls : List Call) (call : Call) (old : Handles) (clear
 comm_comes r calls call old clear new h s c named =
     let class : c.class ≡ Comm = same_class_is c.class Comm (sym (here_named Comm c.class h call c.made) ∙ named) in
     let zero_calls : collectives (calls ++ call ∷ []) h ≡ 0 =
-        collectives_more calls call h ∙ none_counted (is_collective_on h call) (life calls Comm h) (collectives calls h) (c.never Comm) (collectives_never calls h (c.never Comm)) in
+    collectives_more calls call h ∙ none_counted (is_collective_on h call) (life calls Comm h) (collectives calls h) (c.never Comm) (collectives_never calls h (c.never Comm)) in
     ap comm_slot c.slot ∙ ap (λ (x : Class). comm_slot (Some (known_made old x clear call.body))) class
     ∙ known_slot (comm_made old (derived_of call.body))
     ∙ ap (option_map (counted 0)) (made_name r old calls (derived_of call.body) s ∙ sym (name_more r calls call h ∙ ap (λ b. cond b (derived_name (usable_name r calls) (collectives calls) (derived_of call.body)) (name_of r calls h)) named))
@@ -264,7 +264,7 @@ type_comes r calls call old clear new h s is c =
     let gone : sound_type (clear_behind r) calls h ≡ false = sym (s.objects.types h) ∙ ap (λ b. b || is_type (slot_of old.objects h)) pre ∙ ap is_type c.before in
     ap (λ b. b || is_type (slot_of new h)) pre ∙ ap is_type c.slot ∙ made_type r calls call old clear c.class s is
     ∙ sym (sound_more (clear_behind r) calls call h ∙ ap (λ b. cond b (olds_sound r calls call) (sound_type (clear_behind r) calls h)) (here_named Datatype c.class h call c.made)
-      ∙ ap (cond (same_class c.class Datatype) (olds_sound r calls call)) gone)
+    ∙ ap (cond (same_class c.class Datatype) (olds_sound r calls call)) gone)
 
 -- ---- one call more
 

@@ -96,29 +96,35 @@ pub fn derived_comm(body: &Body) -> Option<Derived<'_>>
     ensures { option_map derived_seen result ≡ derived_of body.now }
 {
     match body {
-        Body::Object(Object::CommDup {
-            comm,
-            made: Some(made),
-        }) => Some(Derived {
+        Body::Object(
+            Object::CommDup {
+                comm,
+                made: Some(made),
+            },
+        ) => Some(Derived {
             parent: *comm,
             class: 0,
             members: made.members.items(),
         }),
-        Body::Object(Object::CommSplit {
-            comm,
-            color,
-            made: Some(made),
-            ..
-        }) => Some(Derived {
+        Body::Object(
+            Object::CommSplit {
+                comm,
+                color,
+                made: Some(made),
+                ..
+            },
+        ) => Some(Derived {
             parent: *comm,
             class: *color,
             members: made.members.items(),
         }),
-        Body::Object(Object::CommCreate {
-            comm,
-            made: Some(made),
-            ..
-        }) => {
+        Body::Object(
+            Object::CommCreate {
+                comm,
+                made: Some(made),
+                ..
+            },
+        ) => {
             let members = made.members.items();
             Some(Derived {
                 parent: *comm,

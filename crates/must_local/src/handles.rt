@@ -15,10 +15,10 @@ ghost use Rattle.must_rules.specs.Facts.{members_of};
 ghost use Rattle.must_local.specs.Objects.{type_in, HasMembers};
 ghost use Rattle.must_local.specs.HandlesKnown.{Counts, TakesIn, IsLimitAt, path_limit, full_path, parent_in, too_deep, made_too_deep, usable_comm, comm_made, known_comm, known_made, facts_in, HandlesStand};
 
+use crate::comm::Comm;
 use crate::derived::{comm_named, derived_comm, is_collective, is_there};
 use crate::fault::WalkFault;
 use crate::groups::{copy_of, difference, excluded, included, intersection, union};
-use crate::comm::Comm;
 use crate::known::Known;
 use crate::objects::Objects;
 use must_args::View;
@@ -150,7 +150,10 @@ impl Handles {
             return Ok(Known::Nothing);
         };
         let members = Group::of(alloc, made.members)?;
-        match parent.name().child(alloc, parent.calls(), made.class, members) {
+        match parent
+            .name()
+            .child(alloc, parent.calls(), made.class, members)
+        {
             Ok(name) => Ok(Known::Comm(Comm::new(name))),
             Err(NameFault::TooDeep) => Err(WalkFault::TooWide {
                 call: k,
@@ -264,13 +267,7 @@ impl Handles {
     }
 
     /// Takes call `k` into the table of what is known.
-    fn take_in(
-        &mut self,
-        alloc: Global,
-        k: u32,
-        call: &Call,
-        clear: bool,
-    ) -> Result<(), WalkFault>
+    fn take_in(&mut self, alloc: Global, k: u32, call: &Call, clear: bool) -> Result<(), WalkFault>
         requires members { HasMembers (derived_of call.now.body) }
         requires short { length (handles_of call.now.body) < 2 ^ 32 }
         requires clear { clear ≡ is_clear (facts_in self.old) call.now.body }
@@ -296,13 +293,7 @@ impl Handles {
 
     /// Takes call `k`, the next; `clear` says whether it is. The handle that it makes, if any, has the next number. `TooWide`
     /// comes exactly where the call reaches a limit (docs/FORMAT.md); what is known isn't to be asked any more then.
-    pub fn take(
-        &mut self,
-        alloc: Global,
-        k: u32,
-        call: &Call,
-        clear: bool,
-    ) -> Result<(), WalkFault>
+    pub fn take(&mut self, alloc: Global, k: u32, call: &Call, clear: bool) -> Result<(), WalkFault>
         requires next { IsNext self.old.lives call.now }
         requires members { HasMembers (derived_of call.now.body) }
         requires short { length (handles_of call.now.body) < 2 ^ 32 }

@@ -1,8 +1,9 @@
 //! The walk over the calls of one rank, which gives the rank's entries in batches: so far the findings of the rules that look
 //! at one rank alone.
 //!
-//! A call is taken in constant time and in one step more for each request that it completes or starts. The first Finalize
-//! takes five passes over the handles that were made. Memory is in proportion to these, and not to the calls.
+//! A call is taken in time linear in its fields and in the requests that it completes or starts; the members of a communicator
+//! that it makes are copied, and so are those of a group. The first Finalize takes five passes over the handles that were made. Memory
+//! is in proportion to these and to the members of communicators and groups, and not to the calls; a name shares its members among copies.
 #![tactic(auto)]
 
 mod batch;

@@ -1,9 +1,13 @@
 //! Small runs of one rank, with the rows that docs/RULES.md gives them.
 
-use crate::{Batch, Entry, RankWalk};
+use crate::{Batch, Entry, RankWalk, WalkFault};
 use must_base::NoMemory;
-use must_call::{Body, Call, Derive, Finish, Frame, Persist, Place, Point, Status3};
+use must_call::{
+    Body, Call, Derive, Finish, Frame, IntList, MadeComm, MemberList, Object, Persist, Place,
+    Point, Status3,
+};
 use must_find::{Finding, Rule};
+use must_format::Limit;
 use std::alloc::Global;
 use std::process::Abort;
 use std::test::Fail;
@@ -16,12 +20,31 @@ enum Act {
     Finalize,
     /// The count and the destination.
     Send(i32, i32),
-    /// Makes a type.
+    /// On this communicator, to this destination.
+    SendOn(u32, i32),
+    /// Of this type.
+    SendType(u32),
+    /// Makes a type of `MPI_INT`.
     Contiguous(u32),
+    /// Makes a type of this one.
+    ContiguousOf(u32, u32),
+    Commit(u32),
+    FreeType(u32),
     Isend(u32),
     RecvInit(u32),
     Start(u32),
     Wait(u32),
+    /// Makes a communicator of this one, with both ranks.
+    Dup(u32, u32),
+    /// Makes a communicator of rank 0 alone, with this color.
+    Split(i32, u32),
+    FreeComm(u32),
+    /// Makes the group of a communicator.
+    GroupOf(u32, u32),
+    /// Makes a group of this one, without the member at a position.
+    Exclude(u32, i32, u32),
+    /// Creates a communicator of the world with a group; rank 0 gets none.
+    Create(u32),
 }
 
 fn isend(request: u32) -> Point {
@@ -48,14 +71,14 @@ fn recv_init(request: u32) -> Persist {
     }
 }
 
-fn send(count: i32, dest: i32) -> Point {
+fn send(count: i32, dtype: u32, dest: i32, comm: u32) -> Point {
     Point::Send {
         buf: 4096,
         count,
-        dtype: 7,
+        dtype,
         dest,
         tag: 0,
-        comm: 1,
+        comm,
     }
 }
 
@@ -70,21 +93,67 @@ fn wait(request: u32) -> Finish {
     }
 }
 
-fn body_of(act: Act) -> Body {
-    match act {
+fn contiguous(old: u32, made: u32) -> Derive {
+    Derive::TypeContiguous {
+        count: 2,
+        old,
+        made: Some(made),
+    }
+}
+
+fn made_comm(alloc: Global, made: u32, members: &[u32]) -> Result<Option<MadeComm>, NoMemory> {
+    let members = MemberList::from_vec(members.to_vec(alloc)?);
+    Ok(Some(MadeComm { made, members }))
+}
+
+fn object_of(alloc: Global, act: Act) -> Result<Object, NoMemory> {
+    Ok(match act {
+        Act::Dup(comm, made) => Object::CommDup {
+            comm,
+            made: made_comm(alloc, made, &[0, 1])?,
+        },
+        Act::Split(color, made) => Object::CommSplit {
+            comm: 1,
+            color,
+            key: 0,
+            made: made_comm(alloc, made, &[0])?,
+        },
+        Act::GroupOf(comm, made) => Object::CommGroup {
+            comm,
+            made: Some(made),
+        },
+        Act::Exclude(group, rank, made) => Object::GroupExcl {
+            group,
+            ranks: IntList::from_vec([rank].to_vec(alloc)?),
+            made: Some(made),
+        },
+        Act::Create(group) => Object::CommCreate {
+            comm: 1,
+            group,
+            made: made_comm(alloc, 0, &[])?,
+        },
+        Act::FreeComm(comm) => Object::CommFree { comm },
+        _ => Object::OpFree { op: 0 },
+    })
+}
+
+fn body_of(alloc: Global, act: Act) -> Result<Body, NoMemory> {
+    Ok(match act {
         Act::Init | Act::InitStuck => Body::Frame(Frame::Init),
         Act::Finalize => Body::Frame(Frame::Finalize),
-        Act::Send(count, dest) => Body::Point(send(count, dest)),
-        Act::Contiguous(made) => Body::Derive(Derive::TypeContiguous {
-            count: 2,
-            old: 7,
-            made: Some(made),
-        }),
+        Act::Send(count, dest) => Body::Point(send(count, 7, dest, 1)),
+        Act::SendOn(comm, dest) => Body::Point(send(1, 7, dest, comm)),
+        Act::SendType(dtype) => Body::Point(send(1, dtype, 1, 1)),
+        Act::Contiguous(made) => Body::Derive(contiguous(7, made)),
+        Act::ContiguousOf(old, made) => Body::Derive(contiguous(old, made)),
+        Act::Commit(dtype) => Body::Derive(Derive::TypeCommit { dtype }),
+        Act::FreeType(dtype) => Body::Derive(Derive::TypeFree { dtype }),
         Act::Isend(request) => Body::Point(isend(request)),
         Act::RecvInit(request) => Body::Persist(recv_init(request)),
         Act::Start(request) => Body::Persist(Persist::Start { request }),
         Act::Wait(request) => Body::Finish(wait(request)),
-    }
+        _ => Body::Object(object_of(alloc, act)?),
+    })
 }
 
 /// The rows of a batch, behind others.
@@ -112,7 +181,7 @@ fn rows_of(rt: &impl Abort, alloc: Global, acts: &[Act]) -> Result<Vec<Finding>,
     for act in acts {
         let call = Call {
             returned: !matches!(act, Act::InitStuck),
-            body: body_of(*act),
+            body: body_of(alloc, *act)?,
         };
         let batch = step(rt, &mut walk, &call)?;
         assert!(rt; !batch.last && batch.rank == 0);
@@ -207,5 +276,131 @@ const OPEN_ROWS: [Row; 4] = [
 #[test]
 fn leaks(rt: HostRuntime) -> Result<(), Fail> {
     expect(&rt, rt.alloc(), &OPEN, &OPEN_ROWS)?;
+    Ok(())
+}
+
+const COMMS: [Act; 10] = [
+    Act::Init,
+    Act::Dup(1, 64),
+    Act::SendOn(64, 1),
+    Act::SendOn(64, 2),
+    Act::FreeComm(64),
+    Act::SendOn(64, 1),
+    Act::Dup(64, 65),
+    Act::SendOn(65, 9),
+    Act::SendOn(70, 0),
+    Act::Finalize,
+];
+
+const COMM_ROWS: [Row; 5] = [
+    (3, Rule::A2, 0, None, 2),
+    (5, Rule::H2, 1, Some(4), 64),
+    (6, Rule::H2, 0, Some(4), 64),
+    (8, Rule::H1, 1, None, 70),
+    (9, Rule::L2, 0, Some(6), 65),
+];
+
+const PARTS: [Act; 6] = [
+    Act::Init,
+    Act::Split(3, 64),
+    Act::SendOn(64, 0),
+    Act::SendOn(64, 1),
+    Act::FreeComm(64),
+    Act::Finalize,
+];
+
+/// Peers by the members of a communicator, freed ones, and one that was made of a freed one: no rule looks at its peers.
+#[test]
+fn communicators(rt: HostRuntime) -> Result<(), Fail> {
+    let alloc = rt.alloc();
+    expect(&rt, alloc, &COMMS, &COMM_ROWS)?;
+    expect(&rt, alloc, &PARTS, &[(3, Rule::A2, 0, None, 1)])?;
+    Ok(())
+}
+
+const GROUPS: [Act; 7] = [
+    Act::Init,
+    Act::GroupOf(1, 64),
+    Act::Exclude(64, 0, 65),
+    Act::Exclude(65, 1, 66),
+    Act::Exclude(66, 5, 67),
+    Act::Create(65),
+    Act::Finalize,
+];
+
+const GROUP_ROWS: [Row; 5] = [
+    (3, Rule::A6, 0, None, 0),
+    (6, Rule::L3, 0, Some(1), 64),
+    (6, Rule::L3, 1, Some(2), 65),
+    (6, Rule::L3, 2, Some(3), 66),
+    (6, Rule::L3, 3, Some(4), 67),
+];
+
+/// Rank lists by the members of a group; a group that an unclear call made isn't sound, and no rule looks at ranks in it.
+#[test]
+fn groups(rt: HostRuntime) -> Result<(), Fail> {
+    expect(&rt, rt.alloc(), &GROUPS, &GROUP_ROWS)?;
+    Ok(())
+}
+
+const TYPES: [Act; 11] = [
+    Act::Init,
+    Act::Contiguous(64),
+    Act::SendType(64),
+    Act::Commit(64),
+    Act::SendType(64),
+    Act::FreeType(64),
+    Act::SendType(64),
+    Act::ContiguousOf(64, 65),
+    Act::Commit(65),
+    Act::SendType(65),
+    Act::Finalize,
+];
+
+const TYPE_ROWS: [Row; 4] = [
+    (2, Rule::H4, 0, Some(1), 64),
+    (6, Rule::H2, 0, Some(5), 64),
+    (7, Rule::H2, 0, Some(5), 64),
+    (10, Rule::L1, 0, Some(7), 65),
+];
+
+/// Types that aren't committed yet, and freed ones.
+#[test]
+fn types(rt: HostRuntime) -> Result<(), Fail> {
+    expect(&rt, rt.alloc(), &TYPES, &TYPE_ROWS)?;
+    Ok(())
+}
+
+/// How many of some duplicates, each made of the one before, a walk takes.
+fn taken(alloc: Global, count: u8) -> Result<(u8, Option<WalkFault>), NoMemory> {
+    let mut walk = RankWalk::new(alloc, 0, 2, 32767)?;
+    let mut parent = 1;
+    for i in 0..count {
+        let made = 64 + u32::from(i);
+        let call = Call {
+            returned: true,
+            body: body_of(alloc, Act::Dup(parent, made))?,
+        };
+        if !walk.may_step(&call) {
+            return Ok((i, None));
+        }
+        if let Err(fault) = walk.step(&call) {
+            return Ok((i, Some(fault)));
+        }
+        parent = made;
+    }
+    Ok((count, None))
+}
+
+/// A path has 32 steps at the most; the call that would make the 33rd is named.
+#[test]
+fn paths(rt: HostRuntime) -> Result<(), Fail> {
+    let alloc = rt.alloc();
+    let fault = WalkFault::TooWide {
+        call: 32,
+        limit: Limit::Path,
+    };
+    assert_eq!(&rt; taken(alloc, 32)?, (32, None));
+    assert_eq!(&rt; taken(alloc, 40)?, (32, Some(fault)));
     Ok(())
 }

@@ -26,7 +26,7 @@ use crate::members::are_members;
 use crate::rows::{add_frames, add_missing, is_finalize_call, is_init_call};
 use must_args::check_args;
 use must_base::NoMemory;
-use must_call::{Call, Place};
+use must_call::{Body, Call, Place};
 use must_find::Findings;
 use std::alloc::Global;
 use std::marker::Model;
@@ -82,6 +82,16 @@ fn has_members(call: &Call) -> bool
     match call.made_comm() {
         Some(made) => are_members(made.members.items()),
         None => true,
+    }
+}
+
+/// Whether a call names fewer than 2^32 handles. Only calls of these families have lists of handles.
+fn names_few(call: &Call) -> bool
+    ensures { result ≡ true → length (handles_of call.now.body) < 2 ^ 32 }
+{
+    match &call.body {
+        Body::Finish(_) | Body::Derive(_) | Body::Persist(_) => call.handle(u32::MAX).is_none(),
+        _ => true,
     }
 }
 
@@ -154,7 +164,7 @@ impl RankWalk {
         self.number < u32::MAX
             && self.handles.lives.is_next(call)
             && has_members(call)
-            && call.handle(u32::MAX).is_none()
+            && names_few(call)
     }
 
     /// Takes the next call, and gives its batch. `TooWide` comes exactly where the call reaches a limit (docs/FORMAT.md, "Limits");

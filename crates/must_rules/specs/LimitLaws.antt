@@ -50,8 +50,8 @@ within_more r calls call within none k other e =
     elim (cases_lt k (length calls)) [
       | inl less ↦ ap (λ (xs : List Call). limit_at r xs other) (front_take calls (call ∷ []) k (omega (arith, less))) ∙ within k other (sym (get_front calls (call ∷ []) k less) ∙ e)
       | inr more ↦ (let last = get_last calls call other k more e in
-        let front : take k (calls ++ call ∷ []) ≡ calls = front_take calls (call ∷ []) k (omega (arith, last.0)) ∙ take_all k calls (omega (arith, last.0)) in
-        ap (λ (xs : List Call). limit_at r xs other) front ∙ ap (limit_at r calls) last.1 ∙ none)
+          let front : take k (calls ++ call ∷ []) ≡ calls = front_take calls (call ∷ []) k (omega (arith, last.0)) ∙ take_all k calls (omega (arith, last.0)) in
+          ap (λ (xs : List Call). limit_at r xs other) front ∙ ap (limit_at r calls) last.1 ∙ none)
     ]
 
 -- of some calls, those in front
@@ -183,9 +183,9 @@ not_before r calls a b less =
     let x = at_over r calls a in
     let long : length a.before ≤ length b.before = omega (arith, less) in
     let call : slice_get b.before (length a.before) ≡ Some a.call =
-        sym (get_front b.before (b.call ∷ b.after) (length a.before) less) ∙ ap (λ (xs : List Call). slice_get xs (length a.before)) (sym b.calls_are) ∙ x.1 in
+    sym (get_front b.before (b.call ∷ b.after) (length a.before) less) ∙ ap (λ (xs : List Call). slice_get xs (length a.before)) (sym b.calls_are) ∙ x.1 in
     let front : take (length a.before) b.before ≡ a.before =
-        sym (front_take b.before (b.call ∷ b.after) (length a.before) long) ∙ ap (take (length a.before)) (sym b.calls_are) ∙ x.0 in
+    sym (front_take b.before (b.call ∷ b.after) (length a.before) long) ∙ ap (take (length a.before)) (sym b.calls_are) ∙ x.0 in
     no_limit a.limit (sym (b.within (length a.before) a.call call) ∙ ap (λ (xs : List Call). limit_at r xs a.call) front ∙ a.reached)
 
 some_limit : (l m : Limit) → Some l ≡ Some m → l ≡ m
@@ -195,10 +195,10 @@ over_is_one : (r : Rank) (calls : List Call) (a b : IsOver r calls) → (a.befor
 over_is_one r calls a b =
     elim (cases_order (length a.before) (length b.before)) [
       | inl same ↦ (let x = at_over r calls a in
-        let y = at_over r calls b in
-        let before : a.before ≡ b.before = sym x.0 ∙ ap (λ n. take n calls) same ∙ y.0 in
-        let call : a.call ≡ b.call = same_call a.call b.call (sym x.1 ∙ ap (slice_get calls) same ∙ y.1) in
-        (before, some_limit a.limit b.limit (sym a.reached ∙ ap (λ (xs : List Call). limit_at r xs a.call) before ∙ ap (limit_at r b.before) call ∙ b.reached)))
+          let y = at_over r calls b in
+          let before : a.before ≡ b.before = sym x.0 ∙ ap (λ n. take n calls) same ∙ y.0 in
+          let call : a.call ≡ b.call = same_call a.call b.call (sym x.1 ∙ ap (slice_get calls) same ∙ y.1) in
+          (before, some_limit a.limit b.limit (sym a.reached ∙ ap (λ (xs : List Call). limit_at r xs a.call) before ∙ ap (limit_at r b.before) call ∙ b.reached)))
       | inr (inl less) ↦ absurd (not_before r calls a b less)
       | inr (inr more) ↦ absurd (not_before r calls b a more)
     ]

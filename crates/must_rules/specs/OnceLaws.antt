@@ -329,11 +329,11 @@ fields_apart sends i t ts x y apart at of r p =
     elim at.is [
       | inl a ↦ elim of [
         | inl b ↦ (let u = b.typed in
-          let alike : are_alike (rule_asked t.0) (rule_asked u.0) ≡ true =
-              ap (λ o. are_alike o (rule_asked u.0)) a.asked ∙ ap (are_alike (Some x.rule)) b.is.asked ∙ eq-eqb (rule_place x.rule) (rule_place y.rule) (ap rule_place r) in
-          let parts : nat_eq (part_of sends (side t.0)) (part_of sends (side u.0)) ≡ true =
-              eq-eqb (part_of sends (side t.0)) (part_of sends (side u.0)) (sym a.part_is ∙ p ∙ b.is.part_is) in
-          not_any (list_any (meet sends t) ts) apart (any_has (meet sends t) ts u b.there (ap (λ c. c && nat_eq (part_of sends (side t.0)) (part_of sends (side u.0))) alike ∙ parts)))
+            let alike : are_alike (rule_asked t.0) (rule_asked u.0) ≡ true =
+            ap (λ o. are_alike o (rule_asked u.0)) a.asked ∙ ap (are_alike (Some x.rule)) b.is.asked ∙ eq-eqb (rule_place x.rule) (rule_place y.rule) (ap rule_place r) in
+            let parts : nat_eq (part_of sends (side t.0)) (part_of sends (side u.0)) ≡ true =
+            eq-eqb (part_of sends (side t.0)) (part_of sends (side u.0)) (sym a.part_is ∙ p ∙ b.is.part_is) in
+            not_any (list_any (meet sends t) ts) apart (any_has (meet sends t) ts u b.there (ap (λ c. c && nat_eq (part_of sends (side t.0)) (part_of sends (side u.0))) alike ∙ parts)))
         | inr b ↦ (let no : 1 ≡ 3 = apart_sorts 1 3 x y (sort_of t.0 x.rule a.asked) b.sort_is r in omega (arith, no))
       ]
       | inr a ↦ elim of [

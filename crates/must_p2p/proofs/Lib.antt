@@ -1,0 +1,9 @@
+pub mod Meet
+pub mod Steps
+pub mod Named
+pub mod Next
+pub mod Put
+pub mod Rows
+pub mod Probe
+pub mod Close
+pub mod Distinct

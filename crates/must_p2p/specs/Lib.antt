@@ -1,0 +1,13 @@
+pub mod Items
+pub mod MessageRules
+pub mod Matching
+pub mod Queues
+pub mod Standing
+pub mod LaneLaws
+pub mod ClassLaws
+pub mod MatchLaws
+pub mod GrowthLaws
+pub mod SetLaws
+pub mod PlaceLaws
+pub mod FitLaws
+pub mod OvertakingLaws
