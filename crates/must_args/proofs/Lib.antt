@@ -5,3 +5,7 @@ pub mod Seen
 pub mod Settled
 pub mod Steps
 pub mod Values
+pub mod WorkedMessages
+pub mod WorkedObjects
+pub mod WorkedCollectives
+pub mod WorkedStarted

@@ -1,0 +1,12 @@
+mod NoCall
+mod Amounting
+mod Recorded
+mod Others
+mod Same
+mod LaneSteps
+mod Counting
+mod Position
+mod Step
+mod Whole
+mod PutWave
+mod CloseWave

@@ -1,0 +1,22 @@
+use Rattle.std.proofs.Common.{◌≡◌, OnOk, Option, Some, None, length, sym, ap, subst, ◌∙◌}
+use Rattle.std.specs.Option.{option_copied}
+use Rattle.must_find.specs.Adds.{Adds}
+use Rattle.must_coll.specs.declared.item.WaveItem.{WaveItem}
+use Rattle.must_coll.specs.Given.{GivenFrom}
+use Rattle.must_coll.specs.Agreement.{first_counting}
+use Rattle.must_coll.specs.Amounts.{against}
+use Rattle.must_coll.proofs.NoCall.{adds_nothing, none_from}
+use Rattle.must_coll.proofs.amounts.report_against_first.Goals as goal
+
+pub returns-in-None : goal.returns-in-None
+returns-in-None c =
+    let calls = c.args.calls.now in
+    let is : first_counting c.args.calls.now ≡ None = sym c.first_counting.ensures ∙ ap option_copied c.in-None.is in
+    adds_nothing c.args.out.now (GivenFrom (against c.args.exchange (length calls) 0 (first_counting c.args.calls.now)) 0 calls)
+    (none_from (against c.args.exchange (length calls) 0 (first_counting c.args.calls.now)) (λ i x. ap (λ (o : Option WaveItem). against c.args.exchange (length calls) 0 o i x) is) 0 calls)
+
+pub returns-in-Some : goal.returns-in-Some
+returns-in-Some c =
+    let calls = c.args.calls.now in
+    let is : first_counting c.args.calls.now ≡ Some c.in-Some.first.now = sym c.first_counting.ensures ∙ ap option_copied c.in-Some.is in
+    subst (λ (o : Option WaveItem). OnOk c.report_against.result (Adds c.args.out.now c.report_against.new.out (GivenFrom (against c.args.exchange (length calls) 0 o) 0 calls))) (sym is) c.report_against.ensures

@@ -1,0 +1,31 @@
+use Rattle.std.proofs.Common.{refl}
+use Rattle.std.specs.List.{IsDistinct}
+use Rattle.must_coll.proofs.tests.group_of.Goals as goal
+
+pub of-requires : goal.of-requires
+unfolding IsDistinct
+of-requires c = tt
+
+pub of-requires-in-Zero : goal.of-requires-in-Zero
+unfolding IsDistinct
+of-requires-in-Zero c = (tt, tt)
+
+pub of-requires-in-One : goal.of-requires-in-One
+unfolding IsDistinct
+of-requires-in-One c = (tt, tt)
+
+pub of-requires-in-Both : goal.of-requires-in-Both
+unfolding IsDistinct
+of-requires-in-Both c = ((refl, tt), (tt, tt))
+
+pub of-requires-in-Turned : goal.of-requires-in-Turned
+unfolding IsDistinct
+of-requires-in-Turned c = ((refl, tt), (tt, tt))
+
+pub of-requires-in-Three : goal.of-requires-in-Three
+unfolding IsDistinct
+of-requires-in-Three c = ((refl, (refl, tt)), ((refl, tt), (tt, tt)))
+
+pub of-requires-in-Mixed : goal.of-requires-in-Mixed
+unfolding IsDistinct
+of-requires-in-Mixed c = ((refl, (refl, tt)), ((refl, tt), (tt, tt)))

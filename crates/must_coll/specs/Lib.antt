@@ -1,0 +1,15 @@
+pub mod Waves
+pub mod Rows
+pub mod Given
+pub mod Agreement
+pub mod Amounts
+pub mod Uniform
+pub mod Made
+pub mod Created
+pub mod Duties
+pub mod Fronts
+pub mod Progressing
+pub mod ListLaws
+pub mod WaveLaws
+pub mod GrowthLaws
+pub mod OrderFree
