@@ -410,8 +410,9 @@ fn init_and_finalize(rt: HostRuntime) -> Result<(), Fail> {
 }
 
 #[test]
-fn kinds_without_a_rule_of_arguments(rt: HostRuntime) -> Result<(), Fail> {
+fn wrong_arguments_of_several_kinds(rt: HostRuntime) -> Result<(), Fail> {
     let alloc = rt.alloc();
+    // A root that is out of range leaves the communicator and the root alone significant.
     one_rank(
         &rt,
         alloc,
@@ -425,17 +426,26 @@ fn kinds_without_a_rule_of_arguments(rt: HostRuntime) -> Result<(), Fail> {
             &REDUCE,
         ],
         &found(
-            "rank 0 call 8 part 0: warning L1 type not freed, see 0:4, value 65\nrank 0 call 8 part 0: warning L2 communicator not freed, see 0:5, value 66\nviolations 2\n",
+            "rank 0 call 1 part 0: error A1 negative count, see -, value -1\nrank 0 call 1 part 0: error A2 peer out of range, see -, value 5\nrank 0 call 2 part 0: error A1 negative count, see -, value -1\nrank 0 call 2 part 0: error A2 peer out of range, see -, value 5\nrank 0 call 4 part 0: error A1 negative count, see -, value -1\nrank 0 call 7 part 0: error A4 root out of range, see -, value 5\nrank 0 call 8 part 0: warning L1 type not freed, see 0:4, value 65\nrank 0 call 8 part 0: warning L2 communicator not freed, see 0:5, value 66\nviolations 8\n",
         ),
     )?;
     one_rank(
         &rt,
         alloc,
         &[&IRECV],
-        &found("rank 0 call 2 part 0: warning L5 request open, see 0:1, value 64\nviolations 1\n"),
+        &found(
+            "rank 0 call 1 part 0: error A1 negative count, see -, value -1\nrank 0 call 1 part 0: error A2 peer out of range, see -, value 5\nrank 0 call 2 part 0: warning L5 request open, see 0:1, value 64\nviolations 3\n",
+        ),
     )?;
     // An index is below the number of requests.
-    one_rank(&rt, alloc, &[&IRECV, &waitany(0)], &CLEAN)?;
+    one_rank(
+        &rt,
+        alloc,
+        &[&IRECV, &waitany(0)],
+        &found(
+            "rank 0 call 1 part 0: error A1 negative count, see -, value -1\nrank 0 call 1 part 0: error A2 peer out of range, see -, value 5\nviolations 2\n",
+        ),
+    )?;
     one_rank(
         &rt,
         alloc,
