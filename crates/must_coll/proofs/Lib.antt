@@ -8,5 +8,6 @@ mod Counting
 mod Position
 mod Step
 mod Whole
+mod Named
 mod PutWave
 mod CloseWave

@@ -49,13 +49,14 @@ module _ (old : Progress) (h : List WaveItem) (x : WaveItem) (position : ℕ) (o
   clean_is : (old.clean ≡ true) ↔ ((j : ℕ) → j < is.done → agrees (h ++ x ∷ []) x.name j ≡ true)
   clean_is = (λ e j less. agrees_stays j less ∙ is.clean.0 e j less, λ all. is.clean.1 (λ j less. sym (agrees_stays j less) ∙ all j less))
 
-  unfold_gap : (new : Progress) → has_gap (wave (h ++ x ∷ []) x.name is.done) ≡ true → new.lanes ≡ without_whole (joined_at old.lanes position x)
+  unfold_gap : (new : Progress) → has_gap (wave (h ++ x ∷ []) x.name is.done) ≡ true → new.name ≡ old.name → new.lanes ≡ without_whole (joined_at old.lanes position x)
       → new.clean ≡ clean_after old.clean (fronts (joined_at old.lanes position x)) → IsProgress new x.name (h ++ x ∷ [])
-  unfold_gap new gap lanes clean =
+  unfold_gap new gap name lanes clean =
       let j = joined_at old.lanes position x in
       let g : has_gap (fronts j) ≡ true = ap has_gap wave_now ∙ gap in
       let c : new.clean ≡ old.clean = clean ∙ ap (λ b. cond b old.clean (old.clean && one_kind (fronts j))) g in
       record {
+        name_is = name ∙ is.name_is;
         done = is.done;
         lanes = lanes ∙ ap (λ b. cond b j (map (λ (l : List WaveItem). drop 1 l) j)) g ∙ lanes_now;
         before = before_stays;
@@ -63,9 +64,9 @@ module _ (old : Progress) (h : List WaveItem) (x : WaveItem) (position : ℕ) (o
         clean = (λ e. clean_is.0 (sym c ∙ e), λ all. c ∙ clean_is.1 all);
       }
 
-  unfold_whole : (new : Progress) → has_gap (wave (h ++ x ∷ []) x.name is.done) ≡ false → new.lanes ≡ without_whole (joined_at old.lanes position x)
+  unfold_whole : (new : Progress) → has_gap (wave (h ++ x ∷ []) x.name is.done) ≡ false → new.name ≡ old.name → new.lanes ≡ without_whole (joined_at old.lanes position x)
       → new.clean ≡ clean_after old.clean (fronts (joined_at old.lanes position x)) → IsProgress new x.name (h ++ x ∷ [])
-  unfold_whole new whole lanes clean =
+  unfold_whole new whole name lanes clean =
       let j = joined_at old.lanes position x in
       let n = is.done in
       let r = x.place.rank in
@@ -73,6 +74,7 @@ module _ (old : Progress) (h : List WaveItem) (x : WaveItem) (position : ℕ) (o
       let c : new.clean ≡ (old.clean && agrees (h ++ x ∷ []) x.name n) = clean ∙ ap (λ b. cond b old.clean (old.clean && one_kind (fronts j))) g ∙ ap (λ (w : List (Option WaveItem)). old.clean && one_kind w) wave_now in
       let far : length (lane x.name r (h ++ x ∷ [])) ≤ suc n = omega (arith, ap length (lane_push h x), length_push (lane x.name r h) x, member_waits h x position n comes whole) in
       record {
+        name_is = name ∙ is.name_is;
         done = suc n;
         lanes = lanes ∙ ap (λ b. cond b j (map (λ (l : List WaveItem). drop 1 l) j)) g ∙ ap (λ (l : List (List WaveItem)). map (λ (w : List WaveItem). drop 1 w) l) lanes_now ∙ all_dropped x.name n (h ++ x ∷ []) x.name.members;
         before = λ k less. elim (cases_order k n) [
@@ -92,11 +94,11 @@ module _ (old : Progress) (h : List WaveItem) (x : WaveItem) (position : ℕ) (o
         );
       }
 
-  pub progress_after : (new : Progress) → new.lanes ≡ without_whole (joined_at old.lanes position x)
+  pub progress_after : (new : Progress) → new.name ≡ old.name → new.lanes ≡ without_whole (joined_at old.lanes position x)
       → new.clean ≡ clean_after old.clean (fronts (joined_at old.lanes position x)) → IsProgress new x.name (h ++ x ∷ [])
-  progress_after new lanes clean = elim (cases_Bool (has_gap (wave (h ++ x ∷ []) x.name is.done))) [
-    | inl gap ↦ unfold_gap new gap lanes clean
-    | inr whole ↦ unfold_whole new whole lanes clean
+  progress_after new name lanes clean = elim (cases_Bool (has_gap (wave (h ++ x ∷ []) x.name is.done))) [
+    | inl gap ↦ unfold_gap new gap name lanes clean
+    | inr whole ↦ unfold_whole new whole name lanes clean
   ]
 
   later_gap : has_gap (wave (h ++ x ∷ []) x.name is.done) ≡ true → has_gap (wave (h ++ x ∷ []) x.name x.number) ≡ true

@@ -8,6 +8,7 @@ pub mod Made
 pub mod Created
 pub mod Duties
 pub mod Fronts
+pub mod Numbering
 pub mod Progressing
 pub mod ListLaws
 pub mod WaveLaws

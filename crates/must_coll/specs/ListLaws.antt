@@ -22,6 +22,11 @@ pub get_last : {X : Type 0} (xs : List X) (x : X) → slice_get (xs ++ x ∷ [])
 get_last [] x = refl
 get_last (y ∷ xs) x = get_last xs x
 
+pub has_before : {X : Type 0} (xs zs : List X) (y : X) → Has xs y → Has (xs ++ zs) y
+has_before [] zs y h = absurd h
+has_before (x ∷ xs) zs y (inl e) = inl e
+has_before (x ∷ xs) zs y (inr h) = inr (has_before xs zs y h)
+
 pub has_last : {X : Type 0} (xs : List X) (x : X) → Has (xs ++ x ∷ []) x
 has_last [] x = inl refl
 has_last (y ∷ xs) x = inr (has_last xs x)

@@ -53,8 +53,13 @@ all_places [] = Some []
 all_places (None ∷ ws) = None
 all_places (Some x ∷ ws) = option_map (λ ps. x.place ∷ ps) (all_places ws)
 
--- what waves may be given: the calls of a rank on a communicator come with the numbers 0, 1, 2 and so on, and the rank is
--- a member
+-- a handle number names one communicator at a rank
+abbrev pub AreNamedOnce : List WaveItem → Type 0
+AreNamedOnce items = (x y : WaveItem) → Has items x → Has items y → x.place.rank ≡ y.place.rank → x.comm ≡ y.comm → x.name ≡ y.name
+
+-- what waves may be given: the calls of a rank on a communicator come with the numbers 0, 1, 2 and so on, the rank is a
+-- member, and a handle number of a rank names one communicator
 pub record Orderly (items : List WaveItem) : Type 0 where
   pub numbered : (name : Name) (rank k : ℕ) (x : WaveItem) → slice_get (lane name rank items) k ≡ Some x → x.number ≡ k
   pub members : AllByRecursion (λ x. Has x.name.members x.place.rank) items
+  pub named : AreNamedOnce items

@@ -18,9 +18,10 @@ use must_find::Findings;
 use must_group::CommName;
 use std::alloc::Global;
 
-/// The calls of each member that wait for their wave, and whether all whole waves so far had one kind.
+/// The calls of each member of a communicator that wait for their wave, and whether all whole waves so far had one kind.
 #[derive(Drop)]
 pub(crate) struct Progress {
+    name: CommName,
     clean: bool,
     lanes: Lanes,
 }
@@ -54,13 +55,16 @@ pub(crate) fn place_of(name: &CommName, rank: u32) -> Option<usize>
 
 impl Progress {
     /// No calls yet.
-    pub(crate) fn new(alloc: Global, name: &CommName) -> Result<Progress, NoMemory>
+    pub(crate) fn new(alloc: Global, name: CommName) -> Result<Progress, NoMemory>
+        ensures name { IfOk result (λ p. p.name ≡ name) }
         ensures clean { IfOk result (λ p. p.clean ≡ true) }
-        ensures lanes { IfOk result (λ p. p.lanes ≡ map (λ m. []) name.now.members) }
+        ensures lanes { IfOk result (λ p. p.lanes ≡ map (λ m. []) name.members) }
     {
+        let lanes = Lanes::new(alloc, name.members().ranks())?;
         Ok(Progress {
+            name,
             clean: true,
-            lanes: Lanes::new(alloc, name.members().ranks())?,
+            lanes,
         })
     }
 
@@ -68,15 +72,15 @@ impl Progress {
     pub(crate) fn advance(
         &mut self,
         alloc: Global,
-        name: &CommName,
         position: usize,
         item: WaveItem,
         out: &mut Findings,
     ) -> Result<Option<WaveFact>, NoMemory>
         ensures found { IfOk result (λ o. o ≡ all_places (fronts (joined_at self.old.lanes position item))) }
-        ensures rows { OnOk result (Adds out.old out.new (λ f. (has_gap (fronts (joined_at self.old.lanes position item)) ≡ false) × ((self.old.clean ≡ true) × IsRowIn name.now.members (fronts (joined_at self.old.lanes position item)) f))) }
+        ensures rows { OnOk result (Adds out.old out.new (λ f. (has_gap (fronts (joined_at self.old.lanes position item)) ≡ false) × ((self.old.clean ≡ true) × IsRowIn self.old.name.members (fronts (joined_at self.old.lanes position item)) f))) }
         ensures lanes { OnOk result (self.new.lanes ≡ without_whole (joined_at self.old.lanes position item)) }
         ensures clean { OnOk result (self.new.clean ≡ clean_after self.old.clean (fronts (joined_at self.old.lanes position item))) }
+        ensures name { self.new.name ≡ self.old.name }
     {
         self.lanes.push(position, item)?;
         if !self.lanes.is_whole() {
@@ -89,18 +93,14 @@ impl Progress {
     }
 
     /// Adds the rows of the wave that waits, where all before it were of one kind.
-    pub(crate) fn report_open(
-        self,
-        alloc: Global,
-        name: &CommName,
-        out: &mut Findings,
-    ) -> Result<(), NoMemory>
-        ensures { OnOk result (Adds out.old out.new (λ f. (self.clean ≡ true) × IsRowIn name.now.members (fronts self.lanes) f)) }
+    pub(crate) fn report_open(self, alloc: Global, out: &mut Findings) -> Result<(), NoMemory>
+        ensures { OnOk result (Adds out.old out.new (λ f. (self.clean ≡ true) × IsRowIn self.name.members (fronts self.lanes) f)) }
     {
         if !self.clean {
             return Ok(());
         }
         let Progress {
+            name,
             clean: _,
             mut lanes,
         } = self;

@@ -272,6 +272,75 @@ fn a_whole_wave_in_member_order(rt: HostRuntime) -> Result<(), Fail> {
     Ok(())
 }
 
+/// A call on the communicator that a handle number of its rank names.
+#[derive(Clone, Copy)]
+struct OnHandle {
+    rank: u32,
+    comm: u32,
+    members: Ranks,
+    number: u32,
+    kind: Kind,
+}
+
+fn on_handle(rank: u32, comm: u32, members: Ranks, number: u32, kind: Kind) -> OnHandle {
+    OnHandle {
+        rank,
+        comm,
+        members,
+        number,
+        kind,
+    }
+}
+
+/// Puts the calls in, which stand at call 1, 2 and so on; how many waves become whole.
+fn put_on_handles(
+    rt: &impl Abort,
+    alloc: Global,
+    calls: &[OnHandle],
+    out: &mut Findings,
+) -> Result<u32, NoMemory> {
+    let mut waves = Waves::new(alloc)?;
+    let mut whole: u32 = 0;
+    let mut stands: u32 = 0;
+    for on in calls {
+        let short = call(on.rank, on.kind, &[], &[]);
+        let mut item = item_of(rt, alloc, on.members, on.number, &short)?;
+        stands = stands.saturating_add(1);
+        item.comm = on.comm;
+        item.place.call = stands;
+        if waves.put(item, out)?.is_some() {
+            whole = whole.saturating_add(1);
+        }
+    }
+    waves.close(out)?;
+    Ok(whole)
+}
+
+#[test]
+fn handles_name_communicators_at_their_rank(rt: HostRuntime) -> Result<(), Fail> {
+    let alloc = rt.alloc();
+    let calls = [
+        on_handle(0, 1, Ranks::Both, 0, Kind::Barrier),
+        on_handle(1, 1, Ranks::Turned, 0, Kind::Ibarrier),
+        on_handle(1, 2, Ranks::Both, 0, Kind::Ibarrier),
+        on_handle(0, 2, Ranks::Turned, 0, Kind::Ibarrier),
+        on_handle(0, 9, Ranks::Zero, 0, Kind::Barrier),
+        on_handle(1, 1, Ranks::Turned, 1, Kind::Barrier),
+    ];
+    let mut out = Findings::new(alloc);
+    let whole = put_on_handles(&rt, alloc, &calls, &mut out)?;
+    assert_eq!(rt; whole, 3);
+    assert_eq!(rt; out.len(), 2);
+    let want = [
+        finding(1, 3, Rule::C1, 0, Some((0, 1)), 73),
+        finding(1, 6, Rule::C5, 0, None, 0),
+    ];
+    for (i, finding) in want.iter().enumerate() {
+        assert_eq!(rt; out.get(i).copied(), Some(*finding));
+    }
+    Ok(())
+}
+
 #[test]
 fn amounts_of_a_gather(rt: HostRuntime) -> Result<(), Fail> {
     let alloc = rt.alloc();
@@ -307,6 +376,22 @@ fn amounts_by_member(rt: HostRuntime) -> Result<(), Fail> {
     ];
     let want = [finding(1, 1, Rule::C4, 1, Some((0, 1)), 2)];
     expect_findings(&rt, alloc, Ranks::Both, &exchanged, &want)
+}
+
+#[test]
+fn amounts_by_member_in_place(rt: HostRuntime) -> Result<(), Fail> {
+    let alloc = rt.alloc();
+    let mut first = call(0, Kind::Allgatherv, &[], &[1, 2]);
+    first.in_place = true;
+    let one_kept = [first, call(1, Kind::Allgatherv, &[2], &[3, 2])];
+    let want = [finding(1, 1, Rule::C4, 1, Some((0, 1)), 1)];
+    expect_findings(&rt, alloc, Ranks::Both, &one_kept, &want)?;
+    let mut second = call(1, Kind::Allgatherv, &[], &[1, 2]);
+    second.in_place = true;
+    expect_findings(&rt, alloc, Ranks::Both, &[first, second], &[])?;
+    second.recvs = &[1, 5];
+    let want = [finding(0, 1, Rule::C4, 1, Some((1, 1)), 2)];
+    expect_findings(&rt, alloc, Ranks::Both, &[first, second], &want)
 }
 
 #[test]

@@ -25,7 +25,7 @@ returns-clause-found c =
 pub returns-clause-rows : goal.returns-clause-rows
 returns-clause-rows c =
     let ws = fronts (joined_at c.args.self.now.lanes c.args.position c.args.item) in
-    let members = c.args.name.now.members in
+    let members = c.args.self.now.name.members in
     let clean = c.args.self.now.clean in
     let whole : has_gap ws ≡ false =
     ap (λ (l : List (List WaveItem)). has_gap (fronts l)) (sym c.in_ok-push.ensures) ∙ whole_from (has_gap (fronts c.push.new.self)) c.is_whole.result c.is_whole.ensures c.if-not-is_whole.false in

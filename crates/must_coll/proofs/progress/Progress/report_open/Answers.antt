@@ -11,10 +11,10 @@ use Rattle.must_coll.proofs.progress.Progress.report_open.Goals as goal
 pub returns : goal.returns
 returns c =
     let ws = fronts c.args.self.lanes in
-    let members : c.ranks.result.now ≡ c.args.name.now.members = c.ranks.ensures.ranks ∙ c.members.ensures in
-    let first : c.missing-missing.result ≡ missing c.args.name.now.members ws = c.missing-missing.ensures ∙ ap (λ (ms : List ℕ). missing ms ws) members in
+    let members : c.ranks.result.now ≡ c.args.self.name.members = c.ranks.ensures.ranks ∙ c.members.ensures in
+    let first : c.missing-missing.result ≡ missing c.args.self.name.members ws = c.missing-missing.ensures ∙ ap (λ (ms : List ℕ). missing ms ws) members in
     let calls : c.deref.result.now ≡ present ws = c.deref.ensures.value ∙ c.in_ok-calls.ensures.calls in
     let adds = c.in_ok-report_wave.ensures.rows in
     let with_first = subst (λ (m : Option ℕ). Adds c.args.out.now c.report_wave.new.out (IsRowOf m c.deref.result.now)) first adds in
-    let with_calls = subst (λ (cs : List WaveItem). Adds c.args.out.now c.report_wave.new.out (IsRowOf (missing c.args.name.now.members ws) cs)) calls with_first in
-    adds_under (c.args.self.clean ≡ true) c.args.out.now c.report_wave.new.out (IsRowIn c.args.name.now.members ws) (gap_from c.args.self.clean (not c.args.self.clean) refl c.if-not-self.false) with_calls
+    let with_calls = subst (λ (cs : List WaveItem). Adds c.args.out.now c.report_wave.new.out (IsRowOf (missing c.args.self.name.members ws) cs)) calls with_first in
+    adds_under (c.args.self.clean ≡ true) c.args.out.now c.report_wave.new.out (IsRowIn c.args.self.name.members ws) (gap_from c.args.self.clean (not c.args.self.clean) refl c.if-not-self.false) with_calls
