@@ -17,13 +17,10 @@ use Rattle.must_rules.specs.Lives.{life, with_live, live_among, made_count, open
 use Rattle.must_rules.specs.LiveLaws.{live_more, live_count, live_now}
 use Rattle.must_rules.specs.Leaks.{leak}
 use Rattle.must_local.specs.Adding.{IsOfRule, ClassRows, open_one}
-use Rattle.must_local.specs.declared.batch.Entry.{Entry}
-use Rattle.must_local.specs.declared.batch.Entry.TheVariants.{Row}
-use Rattle.must_local.specs.Entries.{rows_of}
-
-rows_append : (xs ys : List Entry) → rows_of (xs ++ ys) ≡ rows_of xs ++ rows_of ys
-rows_append [] ys = refl
-rows_append (Row f ∷ xs) ys = ap (λ (fs : List Finding). f ∷ fs) (rows_append xs ys)
+use Rattle.must_entry.specs.declared.entry.Entry.{Entry}
+use Rattle.must_entry.specs.declared.entry.Entry.TheVariants.{Row}
+use Rattle.must_entry.specs.Entries.{rows_of}
+use Rattle.must_entry.specs.EntryLaws.{rows_append}
 
 pub rows_next : (xs : List Entry) (fs : List Finding) (i : ℕ) (d : Finding) → i < length fs → rows_of xs ≡ take i fs → rows_of (xs ++ Row (get_or fs i d) ∷ []) ≡ take (i + 1) fs
 rows_next xs fs i d within e = rows_append xs (Row (get_or fs i d) ∷ []) ∙ ap (λ (gs : List Finding). gs ++ get_or fs i d ∷ []) e ∙ sym (take_more fs i d within)

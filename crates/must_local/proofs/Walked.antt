@@ -37,8 +37,8 @@ use Rattle.must_handle.specs.Slots.{Stands, start_in}
 use Rattle.must_local.specs.HandlesKnown.{facts_in, IsLimitAt, HandlesStand}
 use Rattle.must_local.specs.declared.fault.WalkFault.{WalkFault}
 use Rattle.must_local.proofs.Facing.{breaches_are}
-use Rattle.must_local.specs.declared.batch.Batch.{Batch}
-use Rattle.must_local.specs.Entries.{rows_of}
+use Rattle.must_entry.specs.declared.batch.Batch.{Batch}
+use Rattle.must_entry.specs.Entries.{rows_of}
 use Rattle.must_local.specs.Adding.{IsOfRule, FrameRows, ArgumentRows, ClassRows, LeakRows, LeakRowsAt, RowsAt, RowsAtEnd}
 use Rattle.must_local.specs.Walks.{WalkState, rank_by, Knows, Walks, GivesAll, IsMiddle, all_rows, RankTold}
 

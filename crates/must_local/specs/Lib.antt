@@ -1,4 +1,3 @@
-pub mod Entries
 pub mod Distinct
 pub mod DistinctLaws
 pub mod Adding

@@ -15,8 +15,8 @@ use Rattle.must_rules.specs.Communicators.{derived_of}
 use Rattle.must_handle.specs.Changes.{IsNext}
 use Rattle.must_local.specs.Objects.{HasMembers}
 use Rattle.must_local.specs.HandlesKnown.{HandlesStand}
-use Rattle.must_local.specs.declared.batch.Batch.{Batch}
-use Rattle.must_local.specs.Entries.{rows_of}
+use Rattle.must_entry.specs.declared.batch.Batch.{Batch}
+use Rattle.must_entry.specs.Entries.{rows_of}
 
 -- what a walk is told of its rank: its number, the number of ranks, and the greatest tag
 pub record RankTold : Type 0 where

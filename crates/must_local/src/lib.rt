@@ -21,6 +21,6 @@ mod rows;
 mod tests;
 mod walk;
 
-pub use batch::{Batch, Entry, ItemList};
 pub use fault::WalkFault;
+pub use must_entry::{Batch, Entry, ItemList};
 pub use walk::RankWalk;

@@ -6,19 +6,15 @@ use Rattle.must_call.specs.declared.call.Call.{Call}
 use Rattle.must_find.specs.declared.finding.Finding.{Finding}
 use Rattle.must_rules.specs.Local.{IsLocal}
 use Rattle.must_find.specs.Adds.{Adds}
-use Rattle.must_local.specs.declared.batch.Batch.{Batch}
-use Rattle.must_local.specs.declared.batch.Entry.{Entry}
-use Rattle.must_local.specs.declared.batch.Entry.TheVariants.{Row}
-use Rattle.must_local.specs.Entries.{rows_of}
+use Rattle.must_entry.specs.declared.batch.Batch.{Batch}
+use Rattle.must_entry.specs.declared.entry.Entry.{Entry}
+use Rattle.must_entry.specs.Entries.{rows_of}
+use Rattle.must_entry.specs.EntryLaws.{rows_append}
 use Rattle.must_local.specs.DistinctLaws.{has_append, has_front, has_behind}
 use Rattle.must_local.specs.Walks.{RankTold, rank_by, WalkState, Walks, GivesAll, all_rows}
 use Rattle.must_tree.specs.Ranks.{Gathers}
 
 -- ---- rows of entries
-
-rows_append : (xs ys : List Entry) → rows_of (xs ++ ys) ≡ rows_of xs ++ rows_of ys
-rows_append [] ys = refl
-rows_append (Row f ∷ xs) ys = ap (λ (fs : List Finding). f ∷ fs) (rows_append xs ys)
 
 -- what is added after something else is added together with it
 adds_append : (fs gs a b c : List Finding) → Adds a b (Has fs) → Adds b c (Has gs) → Adds a c (Has (fs ++ gs))
@@ -36,10 +32,11 @@ adds_append fs gs a b c first then = λ f. (
 pub adds_none : (a : List Finding) → Adds a a (Has [])
 adds_none a = λ f. (λ h. inl h, λ h. elim h [ inl there ↦ there | inr none ↦ absurd none ])
 
-pub entries_more : (entries : List Entry) (i : ℕ) (d : Entry) (a b c : List Finding) → i < length entries → Adds a b (Has (rows_of (take i entries))) → Adds b c (Has (rows_of (get_or entries i d ∷ []))) → Adds a c (Has (rows_of (take (i + 1) entries)))
-entries_more entries i d a b c within first then =
-    subst (λ (fs : List Finding). Adds a c (Has fs)) (sym (ap rows_of (take_more entries i d within) ∙ rows_append (take i entries) (get_or entries i d ∷ [])))
-    (adds_append (rows_of (take i entries)) (rows_of (get_or entries i d ∷ [])) a b c first then)
+pub entries_more : (entries : List Entry) (i : ℕ) (x : Entry) (a b c : List Finding) → i < length entries → x ≡ get_or entries i x → Adds a b (Has (rows_of (take i entries))) → Adds b c (Has (rows_of (x ∷ []))) → Adds a c (Has (rows_of (take (i + 1) entries)))
+entries_more entries i x a b c within is first then =
+    let next : take (i + 1) entries ≡ take i entries ++ x ∷ [] = take_more entries i x within ∙ ap (λ (y : Entry). take i entries ++ y ∷ []) (sym is) in
+    subst (λ (fs : List Finding). Adds a c (Has fs)) (sym (ap rows_of next ∙ rows_append (take i entries) (x ∷ [])))
+    (adds_append (rows_of (take i entries)) (rows_of (x ∷ [])) a b c first then)
 
 -- ---- batches
 

@@ -19,7 +19,7 @@ use Rattle.must_rules.specs.LimitLaws.{within_none, accepted_or_refused, bad_is_
 use Rattle.must_rules.specs.Streams.{rank_told, Refused}
 use Rattle.must_rules.specs.Local.{IsLocal}
 use Rattle.must_format.specs.declared.cause.Limit.{Limit}
-use Rattle.must_local.specs.declared.batch.Batch.{Batch}
+use Rattle.must_entry.specs.declared.batch.Batch.{Batch}
 use Rattle.must_local.specs.declared.fault.WalkFault.{WalkFault}
 use Rattle.must_local.specs.declared.fault.WalkFault.TheVariants as walk_fault
 use Rattle.must_local.specs.HandlesKnown.{IsLimitAt}

@@ -11,7 +11,7 @@ use Rattle.must_rules.specs.Streams.{Accepted, Refused, Records, recorded_of}
 use Rattle.must_find.specs.Adds.{Adds}
 use Rattle.must_rules.specs.Local.{IsLocal}
 use Rattle.must_rules.specs.RunRows.{rank_in, HasRanksBelow}
-use Rattle.must_local.specs.declared.batch.Batch.{Batch}
+use Rattle.must_entry.specs.declared.batch.Batch.{Batch}
 use Rattle.must_local.specs.Walks.{RankTold, WalkState, Walks, all_rows}
 use Rattle.must_tree.specs.declared.fault.RunFault.{RunFault}
 use Rattle.must_tree.specs.declared.fault.RunFault.TheVariants as run_fault

@@ -3,7 +3,7 @@
 ghost use Rattle.std.specs.Prelude.{◌∷◌, [], OnOk};
 ghost use Rattle.must_base.specs.Listing.{Has};
 ghost use Rattle.must_find.specs.Adds.{Adds};
-ghost use Rattle.must_local.specs.Entries.{rows_of};
+ghost use Rattle.must_entry.specs.Entries.{rows_of};
 
 use must_base::NoMemory;
 use must_find::Findings;
@@ -18,6 +18,9 @@ fn add_entry(findings: &mut Findings, entry: &Entry) -> Result<(), NoMemory>
             findings.add(*finding)?;
             Ok(())
         }
+        Entry::Message { item: _ } => Ok(()),
+        Entry::Wave { item: _ } => Ok(()),
+        Entry::Need { place: _, ways: _ } => Ok(()),
     }
 }
 

@@ -4,7 +4,7 @@ use Rattle.std.proofs.Common.{ℕ, List, length}
 use Rattle.std.proofs.lemmas.Result.{err_from_is_err_and}
 use Rattle.must_call.specs.declared.call.Call.{Call}
 use Rattle.must_rules.specs.Limits.{limit_at}
-use Rattle.must_local.specs.declared.batch.Batch.{Batch}
+use Rattle.must_entry.specs.declared.batch.Batch.{Batch}
 use Rattle.must_local.specs.HandlesKnown.{IsLimitAt}
 use Rattle.must_local.specs.Walks.{rank_by, Walks}
 use Rattle.must_local.proofs.Facing.{handed_on}
