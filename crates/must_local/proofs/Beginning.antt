@@ -1,5 +1,5 @@
 -- What is known before the first call.
-use Rattle.std.proofs.Common.{◌≡◌, ℕ, zero, suc, ◌+◌, ◌-◌, ◌<◌, ◌≤◌, ◌==◌, Bool, true, false, cond, ◌&&◌, ◌||◌, List, [], ◌∷◌, Option, Some, None, refl, sym, ap, subst, ◌∙◌, inl, inr, arith}
+use Rattle.std.proofs.Common.{◌≡◌, ℕ, zero, suc, ◌+◌, ◌-◌, ◌<◌, ◌≤◌, ◌==◌, Bool, true, false, cond, ◌&&◌, List, [], ◌∷◌, Option, Some, None, refl, sym, ap, subst, ◌∙◌, inl, inr, arith}
 use Rattle.std.specs.Prelude.{nat_le}
 use Rattle.std.specs.Option.{option_map}
 use Rattle.std.proofs.lemmas.Bool.{cases_lt, lt-leb}
@@ -11,12 +11,13 @@ use Rattle.must_rules.specs.Rank.{Rank}
 use Rattle.must_rules.specs.Lives.{is_predefined, life}
 use Rattle.must_rules.specs.LifeLaws.{life_first, made_count_first}
 use Rattle.must_rules.specs.Communicators.{there, collectives, predefined_name, name_of}
-use Rattle.must_rules.specs.Known.{group_of, clear_behind, sound_type}
+use Rattle.must_rules.specs.Known.{group_of, clear_behind}
 use Rattle.must_handle.specs.Slots.{Stands}
+use Rattle.must_derived.specs.Standing as derived
 use Rattle.must_local.specs.declared.handles.Handles.{Handles}
 use Rattle.must_local.specs.declared.known.Known.{Known}
 use Rattle.must_local.specs.Counted.{counted}
-use Rattle.must_local.specs.Objects.{place_of, slot_in, comm_slot, comm_in, group_slot, group_in, is_type, counted_of, Remembers}
+use Rattle.must_local.specs.Objects.{place_of, slot_in, comm_slot, comm_in, group_slot, group_in, counted_of, Remembers}
 use Rattle.must_local.specs.HandlesKnown.{HandlesStand}
 use Rattle.must_local.specs.Bumps.{first_objects}
 
@@ -56,12 +57,6 @@ group_first rank size (Some zero) = refl
 group_first rank size (Some (suc zero)) = refl
 group_first rank size (Some (suc (suc n))) = refl
 
-type_first : (rank size : ℕ) (o : Option ℕ) → is_type (slot_in (first_objects rank size) o) ≡ false
-type_first rank size None = refl
-type_first rank size (Some zero) = refl
-type_first rank size (Some (suc zero)) = refl
-type_first rank size (Some (suc (suc n))) = refl
-
 counted_first : (r : Rank) (h : ℕ) → counted_of r [] h ≡ option_map (counted 0) (predefined_name r h)
 unfolding collectives name_of
 counted_first r h = refl
@@ -74,18 +69,13 @@ there_first class h x y same =
           ap (λ l. there l x) never ∙ sym (ap (λ l. there l y) never))
     ]
 
-or_false : (b : Bool) → (b || false) ≡ b
-or_false true = refl
-or_false false = refl
-
 remembers_first : (r : Rank) → Remembers r (first_objects r.rank r.size) []
-unfolding group_of sound_type
+unfolding group_of
 remembers_first r = record {
   size = sym (ap (λ n. 2 + n) made_count_first);
   comms = λ h. there_first Comm h (comm_in (first_objects r.rank r.size) h) (counted_of r [] h) (λ low. comm_first r h low ∙ sym (counted_first r h));
   groups = λ h. there_first Group h (group_in (first_objects r.rank r.size) h) (cond (h == 1) (Some []) None) (λ low. ap (cond (h == 1) (Some [])) (group_first r.rank r.size (place_of h)));
-  types = λ h. ap (λ b. is_predefined Datatype h || b) (type_first r.rank r.size (place_of h)) ∙ or_false (is_predefined Datatype h);
 }
 
-pub handles_first : (r : Rank) (h : Handles) → h.rank ≡ r.rank → h.tag_ub ≡ r.tag_ub → Stands (clear_behind r) h.lives [] → h.objects ≡ first_objects r.rank r.size → HandlesStand r h []
-handles_first r h rank tag lives objects = record { rank_is = rank; tag_is = tag; lives = lives; objects = subst (λ (slots : List Known). Remembers r slots []) (sym objects) (remembers_first r) }
+pub handles_first : (r : Rank) (h : Handles) → h.rank ≡ r.rank → h.tag_ub ≡ r.tag_ub → Stands (clear_behind r) h.lives [] → derived.Stands (clear_behind r) h.types [] → h.objects ≡ first_objects r.rank r.size → HandlesStand r h []
+handles_first r h rank tag lives types objects = record { rank_is = rank; tag_is = tag; lives = lives; types = types; objects = subst (λ (slots : List Known). Remembers r slots []) (sym objects) (remembers_first r) }

@@ -1,10 +1,10 @@
 -- What the tables tell is what the calls before made known.
-use Rattle.std.proofs.Common.{◌≡◌, ℕ, zero, suc, ◌+◌, Bool, true, false, cond, ◌&&◌, nat_eq, List, [], ◌∷◌, length, drop, Option, Some, None, refl, sym, ap, subst, ◌∙◌, arith}
+use Rattle.std.proofs.Common.{◌≡◌, ℕ, Bool, true, false, cond, ◌&&◌, nat_eq, List, length, Option, Some, None, refl, sym, ap, subst, ◌∙◌}
 use mathlib.Core.Path.{fun_ext}
-use Rattle.std.specs.Prelude.{position, slice_get, Result, Err, IfErr}
+use Rattle.std.specs.Prelude.{position, Result, Err, IfErr}
 use Rattle.must_local.specs.declared.fault.WalkFault.{WalkFault}
+use Rattle.must_local.specs.declared.fault.WalkFault.TheVariants as walk_fault
 use Rattle.std.specs.Option.{option_map}
-use Rattle.std.specs.List.{list_all}
 use Rattle.must_call.specs.declared.class.Class.{Class}
 use Rattle.must_call.specs.declared.class.Class.TheVariants.{Comm, Group, Datatype, Operation, Request}
 use Rattle.must_call.specs.declared.life.Life.{Life}
@@ -13,7 +13,9 @@ use Rattle.must_group.specs.Names.{Name}
 use Rattle.must_call.specs.declared.body.Body.{Body}
 use Rattle.must_call.specs.Handles.{ClassedHandle}
 use Rattle.must_rules.specs.Making.{made_by}
-use Rattle.must_rules.specs.Limits.{is_comm, parent_name, has_full_path, is_too_deep, limit_at}
+use Rattle.must_format.specs.declared.cause.Limit.{Limit}
+use Rattle.must_rules.specs.Limits.{is_comm, parent_name, has_full_path, is_too_deep, path_limit, made_limit, or_limit, type_limit_at, limit_at}
+use Rattle.must_rules.specs.Types.{clear_type, type_of, types_weight}
 use Rattle.must_rules.specs.Rank.{Rank}
 use Rattle.must_rules.specs.Lives.{life, committed}
 use Rattle.must_rules.specs.Starts.{start_of}
@@ -26,7 +28,7 @@ use Rattle.must_handle.specs.Slots.{state_in, committed_in, start_in}
 use Rattle.must_local.specs.declared.handles.Handles.{Handles}
 use Rattle.must_local.specs.Counted.{Counted, name_counted, counted}
 use Rattle.must_local.specs.Objects.{comm_in, group_in, counted_of}
-use Rattle.must_local.specs.HandlesKnown.{usable_comm, facts_in, full_path, parent_in, made_too_deep, path_limit, HandlesStand}
+use Rattle.must_local.specs.HandlesKnown.{usable_comm, facts_in, full_path, parent_in, made_too_deep, IsLimitAt, HandlesStand}
 
 named_there : (b : Bool) (c : ℕ) (o : Option Name) → option_map name_counted (cond b (option_map (counted c) o) None) ≡ cond b o None
 named_there true c None = refl
@@ -78,22 +80,6 @@ pub position_told : (h : Handles) (number : ℕ) (comm : Counted) → usable_com
 position_told h number comm e =
     sym (ap (λ (o : Option Counted). option_map position_of (members_named h.rank (option_map name_counted o))) e ∙ position_placed comm.name (position (λ member. nat_eq member h.rank) comm.name.members))
 
--- ---- old types one after the other
-
-some_same : {X : Type 0} (x y : X) → Some x ≡ Some y → x ≡ y
-some_same x y e = cc
-
-pub all_next : {X : Type 0} (p : X → Bool) (xs : List X) (i : ℕ) (x : X) → slice_get xs i ≡ Some x → list_all p (drop i xs) ≡ (p x && list_all p (drop (i + 1) xs))
-all_next p [] i x e = let bad : None ≡ Some x = e in absurd cc
-all_next p (y ∷ ys) zero x e = let same : Some y ≡ Some x = e in ap (λ z. p z && list_all p ys) (some_same y x same)
-all_next p (y ∷ ys) (suc i) x e = all_next p ys i x e ∙ ap (λ n. p x && list_all p (drop n (y ∷ ys))) (let on : suc (i + 1) ≡ suc i + 1 = omega arith in on)
-
-pub all_done : {X : Type 0} (p : X → Bool) (xs : List X) (i : ℕ) → slice_get xs i ≡ None → list_all p (drop i xs) ≡ true
-all_done p [] zero e = refl
-all_done p [] (suc i) e = refl
-all_done p (y ∷ ys) zero e = let bad : Some y ≡ None = e in absurd cc
-all_done p (y ∷ ys) (suc i) e = all_done p ys i e
-
 -- ---- limits
 
 full_named : (o : Option Counted) → has_full_path (option_map name_counted o) ≡ full_path o
@@ -112,10 +98,39 @@ deep_by r h calls b (Some (Datatype, n)) s = refl
 deep_by r h calls b (Some (Operation, n)) s = refl
 deep_by r h calls b (Some (Request, n)) s = refl
 
--- the limit that a call reaches by the tables is the one that it reaches
-pub limit_is : (r : Rank) (h : Handles) (calls : List Call) (call : Call) → HandlesStand r h calls → path_limit (made_too_deep h (made_by call) call.body) ≡ limit_at r calls call
+-- the path that a call reaches by the tables is the one that it reaches
+pub deep_is : (r : Rank) (h : Handles) (calls : List Call) (call : Call) → HandlesStand r h calls → made_too_deep h (made_by call) call.body ≡ is_too_deep r calls call
 unfolding is_too_deep
-limit_is r h calls call s = ap path_limit (deep_by r h calls call.body (made_by call) s)
+deep_is r h calls call s = deep_by r h calls call.body (made_by call) s
+
+-- no call reaches the limits of a path and of a type
+pub deep_alone : (r : Rank) (calls : List Call) (call : Call) → is_too_deep r calls call ≡ true → type_limit_at (clear_behind r) calls call ≡ None
+unfolding is_too_deep type_limit_at
+deep_alone r calls call e = at (made_by call) e
+  where
+    at : (o : Option ClassedHandle) → (is_comm o && has_full_path (parent_name (usable_name r calls) (derived_of call.body))) ≡ true
+        → made_limit o (types_weight (clear_behind r) calls) (clear_type (clear_behind r calls call) (type_of (clear_behind r) calls) call.body) ≡ None
+    at None f = refl
+    at (Some (Comm, n)) f = refl
+    at (Some (Group, n)) f = refl
+    at (Some (Datatype, n)) f = let bad : false ≡ true = f in absurd cc
+    at (Some (Operation, n)) f = refl
+    at (Some (Request, n)) f = refl
+
+no_path : (b : Bool) (l : Limit) → path_limit b ≡ Some l → b ≡ true
+no_path true l e = refl
+no_path false l e = let bad : None ≡ Some l = e in absurd cc
+
+-- what a path is refused by is the call's limit
+pub path_over : (r : Rank) (calls : List Call) (call : Call) (k : ℕ) (f : WalkFault) → IsLimitAt k (path_limit (is_too_deep r calls call)) f → IsLimitAt k (limit_at r calls call) f
+path_over r calls call k (walk_fault.TooWide at l) h =
+    (h.0, ap (λ (o : Option Limit). or_limit o (path_limit (is_too_deep r calls call))) (deep_alone r calls call (no_path (is_too_deep r calls call) l h.1)) ∙ h.1)
+path_over r calls call k walk_fault.NoMemory h = tt
+
+-- what a type is refused by is the call's limit
+pub type_over : (r : Rank) (calls : List Call) (call : Call) (k : ℕ) (f : WalkFault) → IsLimitAt k (type_limit_at (clear_behind r) calls call) f → IsLimitAt k (limit_at r calls call) f
+type_over r calls call k (walk_fault.TooWide at l) h = (h.0, ap (λ (o : Option Limit). or_limit o (path_limit (is_too_deep r calls call))) h.1)
+type_over r calls call k walk_fault.NoMemory h = tt
 
 -- what holds of a fault holds of the result that hands it on
 pub handed_on : {A : Type 0} (result : Result A WalkFault) (given fault : WalkFault) (P : WalkFault → Type 0) → result ≡ Err given → given ≡ fault → P fault → IfErr result P

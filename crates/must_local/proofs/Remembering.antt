@@ -1,27 +1,25 @@
 -- The table stands for one call more.
-use Rattle.std.proofs.Common.{◌≡◌, ℕ, suc, ◌+◌, ◌-◌, ◌≤◌, ◌==◌, Bool, true, false, cond, ◌&&◌, ◌||◌, List, [], ◌∷◌, ◌++◌, length, Option, Some, None, refl, sym, ap, ◌∙◌, inl, inr, arith, length-append}
+use Rattle.std.proofs.Common.{◌≡◌, ℕ, suc, ◌+◌, ◌-◌, ◌≤◌, ◌==◌, Bool, true, false, cond, ◌&&◌, List, [], ◌∷◌, ◌++◌, length, Option, Some, None, refl, sym, ap, ◌∙◌, inl, inr, arith, length-append}
 use Rattle.std.specs.Prelude.{◌⊎◌}
 use Rattle.std.specs.Option.{option_map}
-use Rattle.std.specs.List.{list_all}
 use Rattle.std.proofs.lemmas.Bool.{le-leb, eq-eqb, eqb-true, ne_eqb}
 use Rattle.must_call.specs.declared.class.Class.{Class}
-use Rattle.must_call.specs.declared.class.Class.TheVariants.{Comm, Group, Datatype, Operation, Request}
+use Rattle.must_call.specs.declared.class.Class.TheVariants.{Comm, Group}
 use Rattle.must_call.specs.declared.life.Life.{Life}
 use Rattle.must_call.specs.declared.life.Life.TheVariants.{Never, Live, Freed, Predefined}
 use Rattle.must_call.specs.declared.call.Call.{Call}
-use Rattle.must_call.specs.Handles.{ClassedHandle, handles_of}
+use Rattle.must_call.specs.Handles.{ClassedHandle}
 use Rattle.must_group.specs.Names.{Name}
 use Rattle.must_rules.specs.Rank.{Rank}
 use Rattle.must_rules.specs.Making.{same_class, is_handle, made_by, makes}
 use Rattle.must_rules.specs.MakingLaws.{same_class_is}
-use Rattle.must_rules.specs.Lives.{ends, is_predefined, life, is_kept, made_count}
+use Rattle.must_rules.specs.Lives.{ends, life, is_kept, made_count}
 use Rattle.must_rules.specs.LifeLaws.{next_life, life_more, made_count_more, made_now}
 use Rattle.must_rules.specs.Facts.{Facts}
 use Rattle.must_rules.specs.Clear.{is_clear}
 use Rattle.must_rules.specs.Communicators.{Derived, is_there, there, is_collective_on, collectives, derived_of, derived_name, child_of, name_of, usable_name}
-use Rattle.must_rules.specs.Known.{sound_group, group_made, group_of, facts_of, clear_behind, sound_type}
-use Rattle.must_rules.specs.KnownLaws.{collectives_more, collectives_never, name_more, group_more, sound_more}
-use mathlib.Core.Path.{fun_ext}
+use Rattle.must_rules.specs.Known.{sound_group, group_made, group_of, facts_of}
+use Rattle.must_rules.specs.KnownLaws.{collectives_more, collectives_never, name_more, group_more}
 use Rattle.std.specs.Prelude.{slice_get}
 use Rattle.std.proofs.lemmas.Option.{slice_get_past}
 use Rattle.must_handle.specs.declared.slot.Slot.{Slot}
@@ -32,11 +30,11 @@ use Rattle.must_local.specs.declared.handles.Handles.{Handles}
 use Rattle.must_local.specs.declared.known.Known.{Known}
 use Rattle.must_local.specs.declared.known.Known.TheVariants as known
 use Rattle.must_local.specs.Counted.{Counted, counted, one_more}
-use Rattle.must_local.specs.Objects.{slot_of, comm_slot, comm_in, group_slot, group_in, is_type, type_in, counted_of, Remembers}
+use Rattle.must_local.specs.Objects.{slot_of, comm_slot, comm_in, group_slot, group_in, counted_of, Remembers}
 use Rattle.must_local.specs.Bumps.{bumped}
 use Rattle.must_local.specs.HandlesKnown.{facts_in, HandlesStand, derived_from, comm_made, known_comm, known_group, known_made, counts_on, Counts, Grows}
 use Rattle.must_local.proofs.Tables.{slot_new, slot_past, slot_other}
-use Rattle.must_local.proofs.Facing.{usable_is, facts_are, clear_is}
+use Rattle.must_local.proofs.Facing.{usable_is, facts_are}
 use Rattle.must_local.proofs.Beginning.{made_number}
 
 -- ---- what may be used after one call more
@@ -131,7 +129,6 @@ slot_comm true None = refl
 slot_comm true (Some known.Nothing) = refl
 slot_comm true (Some (known.Comm comm)) = refl
 slot_comm true (Some (known.Group group)) = refl
-slot_comm true (Some known.Type) = refl
 slot_comm false o = refl
 
 counted_more : (t : Bool) (c : ℕ) (n : Option Name) → option_map (counted (cond t (suc c) c)) n ≡ cond t (option_map one_more (option_map (counted c) n)) (option_map (counted c) n)
@@ -192,7 +189,6 @@ slot_group true None = refl
 slot_group true (Some known.Nothing) = refl
 slot_group true (Some (known.Comm comm)) = refl
 slot_group true (Some (known.Group group)) = refl
-slot_group true (Some known.Type) = refl
 slot_group false o = refl
 
 group_stays : (r : Rank) (calls : List Call) (call : Call) (old : Handles) (new : List Known) (h : ℕ) → Stays old call new h → group_in old.objects h ≡ group_of r calls h → group_in new h ≡ group_of r (calls ++ call ∷ []) h
@@ -214,57 +210,6 @@ group_comes r calls call old clear new h s is c named =
     ∙ ap (λ b. cond b (group_made (facts_in old) call.body) None) is
     ∙ ap (λ (f : Facts). sound_group f call.body) (facts_are r old calls s)
     ∙ sym (group_more r calls call h ∙ ap (λ b. cond b (sound_group (facts_of r calls) call.body) (group_of r calls h)) named)
-
--- ---- types
-
-slot_type : (t : Bool) (o : Option Known) → is_type (cond t (option_map bumped o) o) ≡ is_type o
-slot_type true None = refl
-slot_type true (Some known.Nothing) = refl
-slot_type true (Some (known.Comm comm)) = refl
-slot_type true (Some (known.Group group)) = refl
-slot_type true (Some known.Type) = refl
-slot_type false o = refl
-
-abbrev olds_sound : Rank → List Call → Call → Bool
-olds_sound r calls call = clear_behind r calls call && list_all (λ (o : ClassedHandle). sound_type (clear_behind r) calls o.1) (handles_of call.body)
-
-type_stays : (r : Rank) (calls : List Call) (call : Call) (old : Handles) (new : List Known) (h : ℕ) → HandlesStand r old calls → Stays old call new h → type_in new h ≡ sound_type (clear_behind r) (calls ++ call ∷ []) h
-type_stays r calls call old new h s stays =
-    ap (λ o. is_predefined Datatype h || is_type o) stays.slot ∙ ap (λ b. is_predefined Datatype h || b) (slot_type (counts_on old call.body h) (slot_of old.objects h))
-    ∙ s.objects.types h ∙ sym (sound_more (clear_behind r) calls call h ∙ ap (λ b. cond b (olds_sound r calls call) (sound_type (clear_behind r) calls h)) (stays.none Datatype))
-
-type_slot : (b : Bool) → is_type (Some (cond b known.Type known.Nothing)) ≡ b
-type_slot true = refl
-type_slot false = refl
-
-comm_no_type : (o : Option Name) → is_type (Some (known_comm o)) ≡ false
-comm_no_type None = refl
-comm_no_type (Some n) = refl
-
-group_no_type : (o : Option (List ℕ)) → is_type (Some (known_group o)) ≡ false
-group_no_type None = refl
-group_no_type (Some g) = refl
-
-made_type : (r : Rank) (calls : List Call) (call : Call) (old : Handles) (clear : Bool) (class : Class) → HandlesStand r old calls → clear ≡ is_clear (facts_in old) call.body
-    → is_type (Some (known_made old class clear call.body)) ≡ cond (same_class class Datatype) (olds_sound r calls call) false
-made_type r calls call old clear Comm s is = comm_no_type (comm_made old (derived_of call.body))
-made_type r calls call old clear Group s is = group_no_type (cond clear (group_made (facts_in old) call.body) None)
-made_type r calls call old clear Datatype s is =
-    let olds : (λ (o : ClassedHandle). type_in old.objects o.1) ≡ (λ (o : ClassedHandle). sound_type (clear_behind r) calls o.1) = fun_ext (λ (o : ClassedHandle). s.objects.types o.1) in
-    type_slot (clear && list_all (λ (o : ClassedHandle). type_in old.objects o.1) (handles_of call.body))
-    ∙ ap (λ b. b && list_all (λ (o : ClassedHandle). type_in old.objects o.1) (handles_of call.body)) (is ∙ clear_is r old calls call s)
-    ∙ ap (λ (p : ClassedHandle → Bool). clear_behind r calls call && list_all p (handles_of call.body)) olds
-made_type r calls call old clear Operation s is = refl
-made_type r calls call old clear Request s is = refl
-
-type_comes : (r : Rank) (calls : List Call) (call : Call) (old : Handles) (clear : Bool) (new : List Known) (h : ℕ) → HandlesStand r old calls → clear ≡ is_clear (facts_in old) call.body → Comes old clear call new calls h
-    → type_in new h ≡ sound_type (clear_behind r) (calls ++ call ∷ []) h
-type_comes r calls call old clear new h s is c =
-    let pre : is_predefined Datatype h ≡ false = made_number Datatype h c.high in
-    let gone : sound_type (clear_behind r) calls h ≡ false = sym (s.objects.types h) ∙ ap (λ b. b || is_type (slot_of old.objects h)) pre ∙ ap is_type c.before in
-    ap (λ b. b || is_type (slot_of new h)) pre ∙ ap is_type c.slot ∙ made_type r calls call old clear c.class s is
-    ∙ sym (sound_more (clear_behind r) calls call h ∙ ap (λ b. cond b (olds_sound r calls call) (sound_type (clear_behind r) calls h)) (here_named Datatype c.class h call c.made)
-    ∙ ap (cond (same_class c.class Datatype) (olds_sound r calls call)) gone)
 
 -- ---- one call more
 
@@ -300,5 +245,4 @@ remembers_more r calls call old clear mid new s next is counts grows =
           (kept_there (life calls Group h) (makes Group h call) (ends (is_kept calls Group h) Group h call) (length calls) (group_in old.objects h) (group_in new h) (group_of r calls h) (group_of r (calls ++ call ∷ []) h) (s.objects.groups h)
           (λ t same. elim (at h) [ inl x ↦ group_stays r calls call old new h x same | inr c ↦ never_there (life calls Group h) (c.never Group) t ])
           (λ never named. elim (at h) [ inl x ↦ stays_true Group h call (x.none Group) named | inr c ↦ group_comes r calls call old clear new h s is c named ]));
-      types = λ h. elim (at h) [ inl x ↦ type_stays r calls call old new h s x | inr c ↦ type_comes r calls call old clear new h s is c ];
     }

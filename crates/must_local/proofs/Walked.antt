@@ -1,6 +1,13 @@
 -- A walk stands for one call more.
 use Rattle.std.proofs.Common.{◌≡◌, ℕ, ◌+◌, Bool, true, false, cond, ◌==◌, List, [], ◌∷◌, ◌++◌, length, Option, Some, None, refl, sym, ap, subst, ◌∙◌, inl, inr, arith, length-append, append_assoc}
-use Rattle.std.specs.Prelude.{◌⊎◌, ◌↔◌, ◌&&◌, is_none, slice_get}
+use Rattle.std.specs.Prelude.{◌⊎◌, ◌↔◌, ◌&&◌, is_none, is_some, slice_get}
+use mathlib.Core.Path.{fun_ext}
+use Rattle.must_call.specs.declared.class.Class.TheVariants as call_class
+use Rattle.must_rules.specs.Lives as lives
+use Rattle.must_rules.specs.Types.{type_of, sound_type}
+use Rattle.must_rules.specs.Reductions.{wrong_operation}
+use Rattle.must_derived.specs.Numbers.{number_of}
+use Rattle.must_derived.specs.StandingLaws.{number_sound}
 use Rattle.std.specs.List.{AllByRecursion}
 use Rattle.std.proofs.lemmas.List.{append-nil}
 use Rattle.std.proofs.lemmas.Bool.{eqb-true, eq-eqb}
@@ -8,7 +15,7 @@ use Rattle.must_call.specs.declared.class.Class.{Class}
 use Rattle.must_call.specs.declared.class.Class.TheVariants.{Comm, Group, Datatype, Operation, Request}
 use Rattle.must_call.specs.declared.call.Call.{Call}
 use Rattle.must_find.specs.declared.rule.Rule.{Rule}
-use Rattle.must_find.specs.declared.rule.Rule.TheVariants.{I1, I2, I3, A1, A2, A3, A4, A5, A6, A7, H1, H2, H3, H4, H5, L1, L2, L3, L4, L5}
+use Rattle.must_find.specs.declared.rule.Rule.TheVariants.{I1, I2, I3, A1, A2, A3, A4, A5, A6, A7, H1, H2, H3, H4, H5, C6, L1, L2, L3, L4, L5}
 use Rattle.must_find.specs.declared.finding.Finding.{Finding}
 use Rattle.must_base.specs.Listing.{Has, Rises}
 use Rattle.must_find.specs.Order.{by_all}
@@ -20,7 +27,7 @@ use Rattle.must_rules.specs.SearchLaws.{first_more}
 use Rattle.must_rules.specs.Frames.{is_init, is_finalize, first_init, first_finalize, ends_returned, last_returned, init_answer, seeing, outside_init, after_finalize, missing, no_finalize}
 use Rattle.must_rules.specs.Lives.{open_handles}
 use Rattle.must_rules.specs.Leaks.{ends_rank, leak, leak_in, not_freed}
-use Rattle.must_rules.specs.Local.{finding_behind, finding_whole, breaches_at, IsBehind, IsHere, IsWhole, IsLocal}
+use Rattle.must_rules.specs.Local.{finding_behind, finding_whole, breaches_at, operation_untaken, IsBehind, IsHere, IsWhole, IsLocal}
 use Rattle.must_rules.specs.LocalLaws.{here_none, here_more, here_again, here_last, here_within, here_whole, local_here, local_whole, local_cases}
 use Rattle.must_local.specs.Distinct.{AreDistinct}
 use Rattle.must_local.specs.DistinctLaws.{has_append, has_front, has_behind, distinct_append, rises_distinct}
@@ -36,10 +43,10 @@ use Rattle.must_rules.specs.WrongLaws.{place_behind, breach_found, found_breach}
 use Rattle.must_handle.specs.Slots.{Stands, start_in}
 use Rattle.must_local.specs.HandlesKnown.{facts_in, IsLimitAt, HandlesStand}
 use Rattle.must_local.specs.declared.fault.WalkFault.{WalkFault}
-use Rattle.must_local.proofs.Facing.{breaches_are}
+use Rattle.must_local.proofs.Facing.{facts_are, breaches_are}
 use Rattle.must_entry.specs.declared.batch.Batch.{Batch}
 use Rattle.must_entry.specs.Entries.{rows_of}
-use Rattle.must_local.specs.Adding.{IsOfRule, FrameRows, ArgumentRows, ClassRows, LeakRows, LeakRowsAt, RowsAt, RowsAtEnd}
+use Rattle.must_local.specs.Adding.{IsOfRule, FrameRows, ArgumentRows, OperationRows, ClassRows, LeakRows, LeakRowsAt, RowsAt, RowsAtEnd}
 use Rattle.must_local.specs.Walks.{WalkState, rank_by, Knows, Walks, GivesAll, IsMiddle, all_rows, RankTold}
 
 -- ---- the tables
@@ -67,7 +74,7 @@ knows_next version w v calls call knows n i f r stands = record {
 abbrev AllRows : Rank → List Call → Call → Finding → Type 0
 AllRows r calls call f =
     FrameRows r.rank (length calls) (first_init calls) (first_finalize calls) call f
-    ⊎ (ArgumentRows r calls call f ⊎ LeakRowsAt r.rank (length calls) (ends_rank calls call) calls f)
+    ⊎ (ArgumentRows r calls call f ⊎ (OperationRows r calls call f ⊎ LeakRowsAt r.rank (length calls) (ends_rank calls call) calls f))
 
 no_answer : (a : Answer) {P : Type 0} → None ≡ Some a → P
 no_answer a e = absurd cc
@@ -96,11 +103,12 @@ cases_by r calls call f H2 e a n d = inr (inl (found_breach r calls call f H2 e 
 cases_by r calls call f H3 e a n d = inr (inl (found_breach r calls call f H3 e refl a n d))
 cases_by r calls call f H4 e a n d = inr (inl (found_breach r calls call f H4 e refl a n d))
 cases_by r calls call f H5 e a n d = inr (inl (found_breach r calls call f H5 e refl a n d))
-cases_by r calls call f L1 e a n d = inr (inr (leaks_from r calls Datatype L1 f (ends_rank calls call) a n e d (λ x. inl x)))
-cases_by r calls call f L2 e a n d = inr (inr (leaks_from r calls Comm L2 f (ends_rank calls call) a n e d (λ x. inr (inl x))))
-cases_by r calls call f L3 e a n d = inr (inr (leaks_from r calls Group L3 f (ends_rank calls call) a n e d (λ x. inr (inr (inl x)))))
-cases_by r calls call f L4 e a n d = inr (inr (leaks_from r calls Operation L4 f (ends_rank calls call) a n e d (λ x. inr (inr (inr (inl x))))))
-cases_by r calls call f L5 e a n d = inr (inr (leaks_from r calls Request L5 f (ends_rank calls call) a n e d (λ x. inr (inr (inr (inr x))))))
+cases_by r calls call f C6 e a n d = inr (inr (inl (of_rule r calls C6 (at_part 0 (operation_untaken r calls call)) f a n e d)))
+cases_by r calls call f L1 e a n d = inr (inr (inr (leaks_from r calls Datatype L1 f (ends_rank calls call) a n e d (λ x. inl x))))
+cases_by r calls call f L2 e a n d = inr (inr (inr (leaks_from r calls Comm L2 f (ends_rank calls call) a n e d (λ x. inr (inl x)))))
+cases_by r calls call f L3 e a n d = inr (inr (inr (leaks_from r calls Group L3 f (ends_rank calls call) a n e d (λ x. inr (inr (inl x))))))
+cases_by r calls call f L4 e a n d = inr (inr (inr (leaks_from r calls Operation L4 f (ends_rank calls call) a n e d (λ x. inr (inr (inr (inl x)))))))
+cases_by r calls call f L5 e a n d = inr (inr (inr (leaks_from r calls Request L5 f (ends_rank calls call) a n e d (λ x. inr (inr (inr (inr x)))))))
 cases_by r calls call f _ e a n d = no_answer (f.see, f.value) d
 
 -- a finding of a rule is one of the call
@@ -124,42 +132,46 @@ leaks_to r calls call f true e (inr (inr (inl is))) = by_rule r calls call L3 (�
 leaks_to r calls call f true e (inr (inr (inr (inl is)))) = by_rule r calls call L4 (λ p. leak r.rank (slice_get (open_handles calls Operation) p)) f is (ap (λ b. leak_in r.rank b (open_handles calls Operation) f.part) e)
 leaks_to r calls call f true e (inr (inr (inr (inr is)))) = by_rule r calls call L5 (λ p. leak r.rank (slice_get (open_handles calls Request) p)) f is (ap (λ b. leak_in r.rank b (open_handles calls Request) f.part) e)
 
--- what the three families add is what stands at the call
-pub rows_behind : (r : Rank) (calls : List Call) (call : Call) (a b d : List Finding)
-    → Adds [] a (FrameRows r.rank (length calls) (first_init calls) (first_finalize calls) call) → Adds a b (ArgumentRows r calls call)
-    → Adds b d (LeakRowsAt r.rank (length calls) (ends_rank calls call) calls) → Rises by_all d → RowsAt r calls call d
-rows_behind r calls call a b d frames arguments leaks rises = record {
+-- what the families add is what stands at the call
+pub rows_behind : (r : Rank) (calls : List Call) (call : Call) (a b o d : List Finding)
+    → Adds [] a (FrameRows r.rank (length calls) (first_init calls) (first_finalize calls) call) → Adds a b (ArgumentRows r calls call) → Adds b o (OperationRows r calls call)
+    → Adds o d (LeakRowsAt r.rank (length calls) (ends_rank calls call) calls) → Rises by_all d → RowsAt r calls call d
+rows_behind r calls call a b o d frames arguments operations leaks rises = record {
   rises = rises;
   exact = λ f. (
     λ h. elim ((leaks f).0 h) [
-      | inl in_b ↦ elim ((arguments f).0 in_b) [
-        | inl in_a ↦ elim ((frames f).0 in_a) [ inl none ↦ absurd none | inr is ↦ frames_to r calls call f is ]
-        | inr is ↦ arguments_to r calls call f is
+      | inl in_o ↦ elim ((operations f).0 in_o) [
+        | inl in_b ↦ elim ((arguments f).0 in_b) [
+          | inl in_a ↦ elim ((frames f).0 in_a) [ inl none ↦ absurd none | inr is ↦ frames_to r calls call f is ]
+          | inr is ↦ arguments_to r calls call f is
+        ]
+        | inr is ↦ by_rule r calls call C6 (at_part 0 (operation_untaken r calls call)) f is refl
       ]
       | inr is ↦ leaks_to r calls call f (ends_rank calls call) refl is
     ],
     λ is. elim (cases_by r calls call f f.rule refl is.rank_is is.call_is is.gives) [
-      | inl x ↦ (leaks f).1 (inl ((arguments f).1 (inl ((frames f).1 (inr x)))))
-      | inr (inl x) ↦ (leaks f).1 (inl ((arguments f).1 (inr x)))
-      | inr (inr x) ↦ (leaks f).1 (inr x)
+      | inl x ↦ (leaks f).1 (inl ((operations f).1 (inl ((arguments f).1 (inl ((frames f).1 (inr x)))))))
+      | inr (inl x) ↦ (leaks f).1 (inl ((operations f).1 (inl ((arguments f).1 (inr x)))))
+      | inr (inr (inl x)) ↦ (leaks f).1 (inl ((operations f).1 (inr x)))
+      | inr (inr (inr x)) ↦ (leaks f).1 (inr x)
     ],
   );
 }
 
 -- the same, by what the tables tell
-pub rows_known : (version : ℕ) (w : WalkState) (calls : List Call) (call : Call) (ends : Bool) (a b d : List Finding) → Knows version w calls → ends ≡ is_finalize call && is_none w.finalize
-    → Adds [] a (FrameRows (rank_by version w.rank).rank w.number w.init w.finalize call) → Adds a b (ArgumentRows (rank_by version w.rank) calls call)
-    → Adds b d (LeakRowsAt (rank_by version w.rank).rank w.number ends calls) → Rises by_all d → RowsAt (rank_by version w.rank) calls call d
-rows_known version w calls call ends a b d knows e frames arguments leaks rises =
+pub rows_known : (version : ℕ) (w : WalkState) (calls : List Call) (call : Call) (ends : Bool) (a b o d : List Finding) → Knows version w calls → ends ≡ is_finalize call && is_none w.finalize
+    → Adds [] a (FrameRows (rank_by version w.rank).rank w.number w.init w.finalize call) → Adds a b (ArgumentRows (rank_by version w.rank) calls call) → Adds b o (OperationRows (rank_by version w.rank) calls call)
+    → Adds o d (LeakRowsAt (rank_by version w.rank).rank w.number ends calls) → Rises by_all d → RowsAt (rank_by version w.rank) calls call d
+rows_known version w calls call ends a b o d knows e frames arguments operations leaks rises =
     let r = rank_by version w.rank in
     let n = knows.number in
-    rows_behind r calls call a b d
+    rows_behind r calls call a b o d
     (subst (λ (o : Option ℕ). Adds [] a (FrameRows r.rank (length calls) (first_init calls) o call)) knows.finalize
     (subst (λ (o : Option ℕ). Adds [] a (FrameRows r.rank (length calls) o w.finalize call)) knows.init
     (subst (λ (m : ℕ). Adds [] a (FrameRows r.rank m w.init w.finalize call)) n frames)))
-    arguments
-    (subst (λ (x : Bool). Adds b d (LeakRowsAt r.rank (length calls) x calls)) (e ∙ ap (λ (o : Option ℕ). is_finalize call && is_none o) knows.finalize)
-    (subst (λ (m : ℕ). Adds b d (LeakRowsAt r.rank m ends calls)) n leaks))
+    arguments operations
+    (subst (λ (x : Bool). Adds o d (LeakRowsAt r.rank (length calls) x calls)) (e ∙ ap (λ (o : Option ℕ). is_finalize call && is_none o) knows.finalize)
+    (subst (λ (m : ℕ). Adds o d (LeakRowsAt r.rank m ends calls)) n leaks))
     rises
 
 -- ---- the batches
@@ -225,22 +237,36 @@ arguments_told version w calls call at a b knows rank number adds =
     let there : at ≡ place_behind r calls = λ i. record { rank = (rank ∙ knows.handles.rank_is) i; call = (number ∙ knows.number) i } in
     subst (λ (p : Place). Adds a b (IsBreach p (breaches_at r calls call))) there (subst (λ (xs : List Breach). Adds a b (IsBreach at xs)) bs adds.exact)
 
-pub rows_seen : (version : ℕ) (w x : WalkState) → w ≡ x → (calls : List Call) (call : Call) (at : Place) (is ends : Bool) (z a b d : List Finding) → z ≡ [] → Knows version x calls → is ≡ is_finalize call → ends ≡ is && is_none w.finalize
+-- what the rule of operations adds is what is known of them
+operation_told : (version : ℕ) (w : WalkState) (calls : List Call) (call : Call) (at : Place) (b o : List Finding) → Knows version w calls → at.rank ≡ w.handles.rank → at.call ≡ w.number
+    → Adds b o (IsOfRule at.rank at.call C6 (at_part 0 (wrong_operation (facts_in w.handles) (λ h. is_some (number_of w.handles.types.numbers h)) call.body))) → Adds b o (OperationRows (rank_by version w.rank) calls call)
+unfolding operation_untaken
+operation_told version w calls call at b o knows rank number adds =
+    let r = rank_by version w.rank in
+    let s = knows.handles in
+    let sound : (λ h. is_some (number_of w.handles.types.numbers h)) ≡ sound_type (clear_behind r) calls = fun_ext (λ (h : ℕ). number_sound (number_of w.handles.types.numbers h) w.handles.types.table.slots (lives.life calls call_class.Datatype h) (type_of (clear_behind r) calls h) (s.types.fits h)) in
+    subst (λ (x : Option Answer). Adds b o (IsOfRule r.rank (length calls) C6 (at_part 0 x))) (λ i. wrong_operation (facts_are r w.handles calls s i) (sound i) call.body)
+    (subst (λ (k : ℕ). Adds b o (IsOfRule r.rank k C6 (at_part 0 (wrong_operation (facts_in w.handles) (λ h. is_some (number_of w.handles.types.numbers h)) call.body)))) (number ∙ knows.number)
+    (subst (λ (k : ℕ). Adds b o (IsOfRule k at.call C6 (at_part 0 (wrong_operation (facts_in w.handles) (λ h. is_some (number_of w.handles.types.numbers h)) call.body)))) (rank ∙ s.rank_is) adds))
+
+pub rows_seen : (version : ℕ) (w x : WalkState) → w ≡ x → (calls : List Call) (call : Call) (at : Place) (is ends : Bool) (z a b o d : List Finding) → z ≡ [] → Knows version x calls → is ≡ is_finalize call → ends ≡ is && is_none w.finalize
     → at.rank ≡ w.handles.rank → at.call ≡ w.number → w.rank.rank ≡ w.handles.rank
     → Adds z a (FrameRows at.rank at.call w.init w.finalize call) → AddsBreaches at a b (argument_breaches (facts_in w.handles) (λ n. start_in w.handles.lives n) at.call call.body)
-    → ((is_clear : Clearness) → Stands is_clear w.handles.lives calls → Adds b d (LeakRowsAt at.rank at.call ends calls)) → Rises by_all d → RowsAt (rank_by version x.rank) calls call d
-rows_seen version w x e calls call at is ends z a b d none knows f g rank number own frames arguments leaks rises =
+    → Adds b o (IsOfRule at.rank at.call C6 (at_part 0 (wrong_operation (facts_in w.handles) (λ h. is_some (number_of w.handles.types.numbers h)) call.body)))
+    → ((is_clear : Clearness) → Stands is_clear w.handles.lives calls → Adds o d (LeakRowsAt at.rank at.call ends calls)) → Rises by_all d → RowsAt (rank_by version x.rank) calls call d
+rows_seen version w x e calls call at is ends z a b o d none knows f g rank number own frames arguments operations leaks rises =
     let k : Knows version w calls = subst (λ (v : WalkState). Knows version v calls) (sym e) knows in
     let r = rank_by version w.rank in
     let here : at.rank ≡ r.rank = rank ∙ sym own in
     subst (λ (v : WalkState). RowsAt (rank_by version v.rank) calls call d) e
-    (rows_known version w calls call ends a b d k (g ∙ ap (λ (b : Bool). b && is_none w.finalize) f)
+    (rows_known version w calls call ends a b o d k (g ∙ ap (λ (b : Bool). b && is_none w.finalize) f)
     (subst (λ (n : ℕ). Adds [] a (FrameRows r.rank n w.init w.finalize call)) number
     (subst (λ (n : ℕ). Adds [] a (FrameRows n at.call w.init w.finalize call)) here
     (subst (λ (y : List Finding). Adds y a (FrameRows at.rank at.call w.init w.finalize call)) none frames)))
     (arguments_told version w calls call at a b k rank number arguments)
-    (subst (λ (n : ℕ). Adds b d (LeakRowsAt r.rank n ends calls)) number
-    (subst (λ (n : ℕ). Adds b d (LeakRowsAt n at.call ends calls)) here (leaks (clear_behind r) k.handles.lives))) rises)
+    (operation_told version w calls call at b o k rank number operations)
+    (subst (λ (n : ℕ). Adds o d (LeakRowsAt r.rank n ends calls)) number
+    (subst (λ (n : ℕ). Adds o d (LeakRowsAt n at.call ends calls)) here (leaks (clear_behind r) k.handles.lives))) rises)
 
 pub knows_seen : (version : ℕ) (w x v : WalkState) → w ≡ x → (calls : List Call) (call : Call) (i f : Bool) → Knows version x calls → i ≡ is_init call → f ≡ is_finalize call → v.number ≡ w.number + 1 → v.init ≡ or_then w.init (only_if i w.number)
     → v.finalize ≡ or_then w.finalize (only_if f w.number) → v.returned ≡ call.returned

@@ -1,17 +1,17 @@
 -- What the families of rules add at a call, by what the walk keeps.
-use Rattle.std.specs.Prelude.{◌≡◌, ◌⊎◌, ◌↔◌, ℕ, Bool, true, false, List, Option, Some, None, slice_get}
+use Rattle.std.specs.Prelude.{◌≡◌, ◌⊎◌, ◌↔◌, ℕ, Bool, true, false, List, length, Option, Some, None, slice_get}
 use Rattle.must_call.specs.declared.class.Class.{Class}
 use Rattle.must_call.specs.declared.class.Class.TheVariants.{Comm, Group, Datatype, Operation, Request}
 use Rattle.must_call.specs.declared.life.Life.{Life}
 use Rattle.must_call.specs.declared.life.Life.TheVariants.{Live}
 use Rattle.must_call.specs.declared.call.Call.{Call}
 use Rattle.must_find.specs.declared.rule.Rule.{Rule}
-use Rattle.must_find.specs.declared.rule.Rule.TheVariants.{I1, I2, L1, L2, L3, L4, L5}
+use Rattle.must_find.specs.declared.rule.Rule.TheVariants.{I1, I2, C6, L1, L2, L3, L4, L5}
 use Rattle.must_find.specs.declared.finding.Finding.{Finding}
 use Rattle.must_base.specs.Listing.{Has, Rises}
 use Rattle.must_find.specs.Order.{by_all}
 use Rattle.must_rules.specs.Rank.{Rank}
-use Rattle.must_rules.specs.Local.{IsBehind, IsWhole, breaches_at}
+use Rattle.must_rules.specs.Local.{IsBehind, IsWhole, breaches_at, operation_untaken}
 use Rattle.must_rules.specs.Answer.{Answer, at_part}
 use Rattle.must_rules.specs.Breaches.{IsBreach}
 use Rattle.must_rules.specs.WrongLaws.{place_behind}
@@ -33,6 +33,10 @@ FrameRows rank k init finalize call f = IsOfRule rank k I1 (at_part 0 (init_answ
 -- A1 to A7 and H1 to H5
 abbrev pub ArgumentRows : Rank → List Call → Call → Finding → Type 0
 ArgumentRows r calls call f = IsBreach (place_behind r calls) (breaches_at r calls call) f
+
+-- C6
+abbrev pub OperationRows : Rank → List Call → Call → Finding → Type 0
+OperationRows r calls call f = IsOfRule r.rank (length calls) C6 (at_part 0 (operation_untaken r calls call)) f
 
 -- a handle, where it is live
 abbrev pub open_one : ℕ → Life → Option (ℕ × ℕ)

@@ -1,14 +1,12 @@
 -- What a rank knows of its handles by its tables, and the calls that these stand for.
 use Rattle.std.specs.Prelude.{◌≡◌, ◌⊎◌, ◌++◌, ◌∷◌, [], ℕ, Bool, false, nat_eq, ◌&&◌, if◌then◌else◌, List, length, Option, Some, None, option_map}
-use Rattle.std.specs.List.{list_all}
 use Rattle.must_call.specs.declared.class.Class.{Class}
 use Rattle.must_call.specs.declared.class.Class.TheVariants as class
 use Rattle.must_call.specs.declared.body.Body.{Body}
 use Rattle.must_call.specs.declared.call.Call.{Call}
 use Rattle.must_group.specs.Names.{Name}
 use Rattle.must_format.specs.declared.cause.Limit.{Limit}
-use Rattle.must_format.specs.declared.cause.Limit.TheVariants as limit
-use Rattle.must_call.specs.Handles.{ClassedHandle, handles_of}
+use Rattle.must_call.specs.Handles.{ClassedHandle}
 use Rattle.must_rules.specs.Limits.{longest_path}
 use Rattle.must_local.specs.declared.fault.WalkFault.{WalkFault}
 use Rattle.must_local.specs.declared.fault.WalkFault.TheVariants as walk_fault
@@ -18,8 +16,9 @@ use Rattle.must_rules.specs.Facts.{Facts}
 use Rattle.must_rules.specs.Communicators.{Derived, is_there, there, is_collective, is_number, comm_named, derived_of, child_of, members_named}
 use Rattle.must_rules.specs.Known.{group_made, clear_behind}
 use Rattle.must_handle.specs.Slots.{Stands, state_in, committed_in}
+use Rattle.must_derived.specs.Standing as derived
 use Rattle.must_local.specs.Counted.{Counted, counted, name_counted}
-use Rattle.must_local.specs.Objects.{slot_of, comm_in, group_in, type_in, Remembers}
+use Rattle.must_local.specs.Objects.{slot_of, comm_in, group_in, Remembers}
 use Rattle.must_local.specs.Bumps.{bumped}
 use Rattle.must_local.specs.declared.known.Known.{Known}
 use Rattle.must_local.specs.declared.known.Known.TheVariants as known
@@ -43,6 +42,7 @@ pub record HandlesStand (r : Rank) (h : Handles) (calls : List Call) : Type 0 wh
   pub rank_is : h.rank ≡ r.rank
   pub tag_is : h.tag_ub ≡ r.tag_ub
   pub lives : Stands (clear_behind r) h.lives calls
+  pub types : derived.Stands (clear_behind r) h.types calls
   pub objects : Remembers r h.objects calls
 
 -- ---- what becomes known of a handle that a call makes
@@ -65,7 +65,6 @@ known_group (Some group) = known.Group group
 abbrev pub known_made : Handles → Class → (clear : Bool) → Body → Known
 known_made h class.Comm clear b = known_comm (comm_made h (derived_of b))
 known_made h class.Group clear b = known_group (if clear then group_made (facts_in h) b else None)
-known_made h class.Datatype clear b = if clear && list_all (λ old. type_in h.objects old.1) (handles_of b) then known.Type else known.Nothing
 known_made h _ clear b = known.Nothing
 
 -- what a call counts: a collective call on a communicator that may be used
@@ -115,6 +114,3 @@ made_too_deep h (Some made) b = too_deep h made.0 b
 abbrev pub IsLimitAt : ℕ → Option Limit → WalkFault → Type 0
 IsLimitAt k reached (walk_fault.TooWide call limit) = (call ≡ k) × (reached ≡ Some limit)
 IsLimitAt k reached walk_fault.NoMemory = Unit {0}
-
-abbrev pub path_limit : Bool → Option Limit
-path_limit deep = if deep then Some limit.Path else None

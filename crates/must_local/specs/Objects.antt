@@ -1,13 +1,13 @@
--- A table of what a rank knows of its communicators, groups and types.
-use Rattle.std.specs.Prelude.{◌≡◌, ℕ, ◌+◌, ◌-◌, ◌==◌, ◌<◌, ◌≤◌, nat_le, nat_eq, Bool, true, false, ◌||◌, if◌then◌else◌, List, [], length, Option, Some, None, option_map, slice_get}
+-- A table of what a rank knows of its communicators and groups.
+use Rattle.std.specs.Prelude.{◌≡◌, ℕ, ◌+◌, ◌-◌, ◌==◌, ◌<◌, ◌≤◌, nat_le, nat_eq, if◌then◌else◌, List, [], length, Option, Some, None, option_map, slice_get}
 use Rattle.std.specs.List.{All, IsDistinct}
 use Rattle.must_call.specs.declared.constants.TheConstants.{COMM_WORLD, COMM_SELF, GROUP_EMPTY, FIRST_MADE}
 use Rattle.must_call.specs.declared.class.Class.TheVariants as class
 use Rattle.must_call.specs.declared.call.Call.{Call}
 use Rattle.must_rules.specs.Rank.{Rank}
-use Rattle.must_rules.specs.Lives.{is_predefined, life, made_count}
+use Rattle.must_rules.specs.Lives.{life, made_count}
 use Rattle.must_rules.specs.Communicators.{Derived, there, collectives, name_of}
-use Rattle.must_rules.specs.Known.{group_of, clear_behind, sound_type}
+use Rattle.must_rules.specs.Known.{group_of}
 use Rattle.must_local.specs.Counted.{Counted, counted}
 use Rattle.must_local.specs.declared.known.Known.{Known}
 use Rattle.must_local.specs.declared.known.Known.TheVariants as known
@@ -38,25 +38,17 @@ group_slot _ = None
 abbrev pub group_in : List Known → ℕ → Option (List ℕ)
 group_in slots number = if number == GROUP_EMPTY then Some [] else group_slot (slot_of slots number)
 
-abbrev pub is_type : Option Known → Bool
-is_type (Some known.Type) = true
-is_type _ = false
-
-abbrev pub type_in : List Known → ℕ → Bool
-type_in slots number = is_predefined class.Datatype number || is_type (slot_of slots number)
-
 -- ---- what it stands for
 
 -- a sound communicator after these calls
 abbrev pub counted_of : Rank → List Call → ℕ → Option Counted
 counted_of r calls comm = option_map (counted (collectives calls comm)) (name_of r calls comm)
 
--- the table tells what is known of handles that may be used, and which types are sound
+-- the table tells what is known of handles that may be used
 pub record Remembers (r : Rank) (slots : List Known) (calls : List Call) : Type 0 where
   pub size : length slots ≡ 2 + made_count calls
   pub comms : (comm : ℕ) → there (life calls class.Comm comm) (comm_in slots comm) ≡ there (life calls class.Comm comm) (counted_of r calls comm)
   pub groups : (group : ℕ) → there (life calls class.Group group) (group_in slots group) ≡ there (life calls class.Group group) (group_of r calls group)
-  pub types : (dtype : ℕ) → type_in slots dtype ≡ sound_type (clear_behind r) calls dtype
 
 -- the members that a communicator may have: at most 1,024 distinct ranks below that
 pub record AreMembers (members : List ℕ) : Type 0 where

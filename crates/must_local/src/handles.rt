@@ -1,19 +1,22 @@
 //! What a rank knows of its handles.
 
-ghost use Rattle.std.specs.Prelude.{◌≡◌, ◌+◌, ◌++◌, ◌∷◌, [], ℕ, true, None, ◌<◌, ◌^◌, List, length, option_map, IfOk, IfErr, IfSome, OnOk, false};
-ghost use Rattle.std.specs.List.{list_all};
+ghost use Rattle.std.specs.Prelude.{◌≡◌, ◌+◌, ◌++◌, ◌∷◌, [], ℕ, true, None, ◌<◌, ◌^◌, List, Option, length, option_map, IfOk, IfErr, IfSome, OnOk, false};
 ghost use Rattle.must_call.specs.declared.call.Call.{Call};
-ghost use Rattle.must_call.specs.Handles.{handles_of};
 ghost use Rattle.must_rules.specs.Rank.{Rank};
 ghost use Rattle.must_rules.specs.Making.{made_by};
-ghost use Rattle.must_rules.specs.Limits.{limit_at};
+ghost use Rattle.must_rules.specs.Limits.{path_limit, limit_at};
 ghost use Rattle.must_rules.specs.Clear.{is_clear};
 ghost use Rattle.must_rules.specs.Communicators.{derived_of};
 ghost use Rattle.must_rules.specs.Known.{group_made};
 ghost use Rattle.must_handle.specs.Changes.{IsNext};
 ghost use Rattle.must_rules.specs.Facts.{members_of};
-ghost use Rattle.must_local.specs.Objects.{type_in, HasMembers};
-ghost use Rattle.must_local.specs.HandlesKnown.{Counts, TakesIn, IsLimitAt, path_limit, full_path, parent_in, too_deep, made_too_deep, usable_comm, comm_made, known_comm, known_made, facts_in, HandlesStand};
+ghost use Rattle.must_local.specs.Objects.{HasMembers};
+ghost use Rattle.must_format.specs.declared.cause.Limit.{Limit};
+ghost use Rattle.must_rules.specs.Starts.{Clearness};
+ghost use Rattle.must_rules.specs.Limits.{type_limit_at};
+ghost use Rattle.must_derived.specs.Numbers.{IsNext as IsNextType};
+ghost use Rattle.must_derived.specs.Standing.{Stands as TypesStand, IsTypeLimit};
+ghost use Rattle.must_local.specs.HandlesKnown.{Counts, TakesIn, IsLimitAt, full_path, parent_in, too_deep, made_too_deep, usable_comm, comm_made, known_comm, known_made, facts_in, HandlesStand};
 
 use crate::comm::Comm;
 use crate::derived::{comm_named, derived_comm, is_collective, is_there};
@@ -24,9 +27,11 @@ use crate::objects::Objects;
 use must_args::View;
 use must_base::NoMemory;
 use must_call::{Body, Call, Class, Life, Object};
+use must_derived::Datatypes;
 use must_format::Limit;
 use must_group::{Group, NameFault};
 use must_handle::{Lives, made};
+use must_type::{Limit2, TypeFault};
 use std::alloc::Global;
 
 /// What the calls of a rank taken so far made of its handles.
@@ -35,17 +40,19 @@ pub struct Handles {
     pub rank: u32,
     pub tag_ub: i32,
     pub lives: Lives,
+    pub types: Datatypes,
     pub objects: Objects,
 }
 
 impl View for Handles {
     ghost use Rattle.must_handle.specs.Slots.{start_in};
-    ghost use Rattle.must_local.specs.Objects.{type_in};
+    ghost use Rattle.std.specs.Prelude.{is_some};
+    ghost use Rattle.must_derived.specs.Numbers.{number_of};
     ghost use Rattle.must_local.specs.HandlesKnown.{facts_in};
 
     ghost facts = { λ h. facts_in h };
 
-    ghost sound = { λ h number. type_in h.objects number };
+    ghost sound = { λ h number. is_some (number_of h.types.numbers number) };
 
     ghost starts = { λ h number. start_in h.lives number };
 
@@ -76,7 +83,7 @@ impl View for Handles {
     }
 
     fn sound_type(&self, number: u32) -> bool {
-        self.objects.is_type(number)
+        self.types.is_sound(number)
     }
 
     fn tag_ub(&self) -> i32 {
@@ -88,6 +95,27 @@ impl View for Handles {
     }
 }
 
+/// What stops a walk at call `k` where a type isn't made.
+fn type_limit(k: u32, fault: TypeFault) -> WalkFault
+    ensures { (reached : Option Limit) → IsTypeLimit reached fault → IsLimitAt k reached result }
+{
+    match fault {
+        TypeFault::TooWide {
+            limit: Limit2::Weight,
+        } => WalkFault::TooWide {
+            call: k,
+            limit: Limit::TypeWeight,
+        },
+        TypeFault::TooWide {
+            limit: Limit2::Reach,
+        } => WalkFault::TooWide {
+            call: k,
+            limit: Limit::TypeReach,
+        },
+        TypeFault::NoMemory => WalkFault::NoMemory,
+    }
+}
+
 impl Handles {
     /// What is known before the first call, at a rank of a run of so many.
     pub fn new(alloc: Global, rank: u32, size: u32, tag_ub: i32) -> Result<Handles, NoMemory>
@@ -95,11 +123,13 @@ impl Handles {
         ensures told { IfOk result (λ h. (h.rank ≡ rank) × (h.tag_ub ≡ tag_ub)) }
     {
         let lives = Lives::new(alloc)?;
+        let types = Datatypes::new(alloc)?;
         let objects = Objects::new(alloc, rank, size)?;
         Ok(Handles {
             rank,
             tag_ub,
             lives,
+            types,
             objects,
         })
     }
@@ -192,24 +222,6 @@ impl Handles {
         }
     }
 
-    /// Whether the types that a call names are sound.
-    fn names_sound_types(&self, call: &Call) -> bool
-        requires { length (handles_of call.now.body) < 2 ^ 32 }
-        ensures { result ≡ list_all (λ old. type_in self.now.objects old.1) (handles_of call.now.body) }
-    {
-        for i in 0..u32::MAX {
-            match call.handle(i) {
-                None => return true,
-                Some((_class, number)) => {
-                    if !self.objects.is_type(number) {
-                        return false;
-                    }
-                }
-            }
-        }
-        true
-    }
-
     /// What is known of the handle of this class that call `k` makes; `clear` says whether the call is.
     fn known_made(
         &self,
@@ -220,7 +232,6 @@ impl Handles {
         clear: bool,
     ) -> Result<Known, WalkFault>
         requires members { HasMembers (derived_of call.now.body) }
-        requires short { length (handles_of call.now.body) < 2 ^ 32 }
         requires clear { clear ≡ is_clear (facts_in self.now) call.now.body }
         ensures known { IfOk result (λ known. known ≡ known_made self.now class clear call.now.body) }
         ensures within { IfOk result (λ known. too_deep self.now class call.now.body ≡ false) }
@@ -237,13 +248,6 @@ impl Handles {
                     None => Ok(Known::Nothing),
                 }
             }
-            Class::Datatype => {
-                if clear && self.names_sound_types(call) {
-                    Ok(Known::Type)
-                } else {
-                    Ok(Known::Nothing)
-                }
-            }
             _ => Ok(Known::Nothing),
         }
     }
@@ -251,7 +255,7 @@ impl Handles {
     /// Counts a collective call on a communicator that may be used.
     fn count(&mut self, body: &Body) -> Result<(), NoMemory>
         ensures counts { OnOk result (Counts self.old body.now self.old.objects self.new.objects) }
-        ensures lives { self.new.lives ≡ self.old.lives }
+        ensures lives { (self.new.lives ≡ self.old.lives) × (self.new.types ≡ self.old.types) }
         ensures told { (self.new.rank ≡ self.old.rank) × (self.new.tag_ub ≡ self.old.tag_ub) }
     {
         if !is_collective(body) {
@@ -269,12 +273,11 @@ impl Handles {
     /// Takes call `k` into the table of what is known.
     fn take_in(&mut self, alloc: Global, k: u32, call: &Call, clear: bool) -> Result<(), WalkFault>
         requires members { HasMembers (derived_of call.now.body) }
-        requires short { length (handles_of call.now.body) < 2 ^ 32 }
         requires clear { clear ≡ is_clear (facts_in self.old) call.now.body }
         ensures takes { OnOk result (TakesIn self.old clear call.now self.new.objects) }
         ensures within { OnOk result (made_too_deep self.old (made_by call.now) call.now.body ≡ false) }
         ensures over { IfErr result (IsLimitAt k (path_limit (made_too_deep self.old (made_by call.now) call.now.body))) }
-        ensures lives { self.new.lives ≡ self.old.lives }
+        ensures lives { (self.new.lives ≡ self.old.lives) × (self.new.types ≡ self.old.types) }
         ensures told { (self.new.rank ≡ self.old.rank) × (self.new.tag_ub ≡ self.old.tag_ub) }
     {
         match made(call) {
@@ -291,12 +294,30 @@ impl Handles {
         }
     }
 
+    /// Takes call `k` into the datatypes.
+    fn take_type(
+        &mut self,
+        alloc: Global,
+        k: u32,
+        call: &Call,
+        clear: bool,
+    ) -> Result<(), WalkFault>
+        ensures stands { OnOk result ((is_clear : Clearness) (calls : List Call) → IsNextType self.old.types.numbers call.now → clear ≡ is_clear calls call.now → TypesStand is_clear self.old.types calls → TypesStand is_clear self.new.types (calls ++ call.now ∷ [])) }
+        ensures within { OnOk result ((is_clear : Clearness) (calls : List Call) → clear ≡ is_clear calls call.now → TypesStand is_clear self.old.types calls → type_limit_at is_clear calls call.now ≡ None) }
+        ensures over { IfErr result (λ fault. (is_clear : Clearness) (calls : List Call) → clear ≡ is_clear calls call.now → TypesStand is_clear self.old.types calls → IsLimitAt k (type_limit_at is_clear calls call.now) fault) }
+        ensures others { (self.new.lives ≡ self.old.lives) × (self.new.objects ≡ self.old.objects) × (self.new.rank ≡ self.old.rank) × (self.new.tag_ub ≡ self.old.tag_ub) }
+    {
+        match self.types.take(alloc, call, clear) {
+            Ok(()) => Ok(()),
+            Err(fault) => Err(type_limit(k, fault)),
+        }
+    }
+
     /// Takes call `k`, the next; `clear` says whether it is. The handle that it makes, if any, has the next number. `TooWide`
     /// comes exactly where the call reaches a limit (docs/FORMAT.md); what is known isn't to be asked any more then.
     pub fn take(&mut self, alloc: Global, k: u32, call: &Call, clear: bool) -> Result<(), WalkFault>
         requires next { IsNext self.old.lives call.now }
         requires members { HasMembers (derived_of call.now.body) }
-        requires short { length (handles_of call.now.body) < 2 ^ 32 }
         requires clear { clear ≡ is_clear (facts_in self.old) call.now.body }
         ensures stands { OnOk result ((r : Rank) (calls : List Call) → length calls ≡ k → HandlesStand r self.old calls → HandlesStand r self.new (calls ++ call.now ∷ [])) }
         ensures told { OnOk result ((self.new.rank ≡ self.old.rank) × (self.new.tag_ub ≡ self.old.tag_ub)) }
@@ -304,6 +325,7 @@ impl Handles {
         ensures over { IfErr result (λ fault. (r : Rank) (calls : List Call) → HandlesStand r self.old calls → IsLimitAt k (limit_at r calls call.now) fault) }
     {
         self.take_in(alloc, k, call, clear)?;
+        self.take_type(alloc, k, call, clear)?;
         self.lives.apply(k, call, clear)?;
         Ok(())
     }

@@ -16,6 +16,7 @@ mod known;
 mod leaks;
 mod members;
 mod objects;
+mod reductions;
 mod rows;
 #[cfg(test)]
 mod tests;

@@ -1,9 +1,9 @@
-//! What a rank knows of its communicators, groups and types beside their lives.
+//! What a rank knows of its communicators and groups beside their lives.
 
 ghost use Rattle.std.specs.Prelude.{◌≡◌, ◌↔◌, ◌++◌, ◌∷◌, [], ◌+◌, ◌<◌, ◌^◌, ℕ, nat_eq, List, length, Option, Some, None, option_map, IfOk, OnOk, if◌then◌else◌};
 ghost use Rattle.std.specs.List.{IsDistinct};
 ghost use Rattle.must_group.specs.Groups.{below};
-ghost use Rattle.must_local.specs.Objects.{place_of, slot_of, comm_in, group_in, type_in};
+ghost use Rattle.must_local.specs.Objects.{place_of, slot_of, comm_in, group_in};
 ghost use Rattle.must_local.specs.Counted.{counted};
 ghost use Rattle.must_local.specs.Bumps.{Bumps, bumped, first_objects};
 ghost use Rattle.must_local.specs.declared.known.Known.TheVariants as slot;
@@ -18,9 +18,6 @@ use std::marker::Model;
 
 /// The first handle that a call makes stands behind two others in the table.
 const BEFORE_MADE: u32 = FIRST_MADE - 2;
-
-/// The datatypes that MPI names have the numbers from 1 to this one.
-const LAST_TYPE: u32 = 30;
 
 /// The world, the rank alone, and the handles that calls made, in order of number.
 #[derive(Drop)]
@@ -138,17 +135,6 @@ impl Objects {
             Some(Known::Group(group)) => Some(group),
             _ => None,
         }
-    }
-
-    /// Whether a datatype is sound.
-    #[tactic(auto, unfolding(must_rules::specs::Lives::is_predefined))]
-    pub fn is_type(&self, number: u32) -> bool
-        ensures { result ≡ type_in self.now number }
-    {
-        if number >= 1 && number <= LAST_TYPE {
-            return true;
-        }
-        matches!(self.slot(number), Some(Known::Type))
     }
 
     /// One more handle, with the next number.

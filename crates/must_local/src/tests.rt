@@ -3,8 +3,8 @@
 use crate::{Batch, Entry, RankWalk, WalkFault};
 use must_base::NoMemory;
 use must_call::{
-    Body, Call, Derive, Finish, Frame, IntList, MadeComm, MemberList, Object, Persist, Place,
-    Point, Status3,
+    Body, Call, Collective, Derive, Finish, Frame, IntList, MadeComm, MemberList, Object, Persist,
+    Place, Point, Status3,
 };
 use must_find::{Finding, Rule};
 use must_format::Limit;
@@ -28,8 +28,14 @@ enum Act {
     Contiguous(u32),
     /// Makes a type of this one.
     ContiguousOf(u32, u32),
+    /// Makes a type of so many blocks of an `MPI_INT`, with gaps.
+    Vector(i32, u32),
     Commit(u32),
     FreeType(u32),
+    /// By this operation, of this type.
+    Allreduce(u32, u32),
+    /// To rank 0.
+    Reduce(u32, u32),
     Isend(u32),
     RecvInit(u32),
     Start(u32),
@@ -101,6 +107,41 @@ fn contiguous(old: u32, made: u32) -> Derive {
     }
 }
 
+fn vector(count: i32, made: u32) -> Derive {
+    Derive::TypeVector {
+        count,
+        block: 1,
+        stride: 2,
+        old: 7,
+        made: Some(made),
+    }
+}
+
+fn allreduce(op: u32, dtype: u32) -> Collective {
+    Collective::Allreduce {
+        in_place: false,
+        sbuf: 4096,
+        rbuf: 8192,
+        count: 1,
+        dtype,
+        op,
+        comm: 1,
+    }
+}
+
+fn reduce(op: u32, dtype: u32) -> Collective {
+    Collective::Reduce {
+        in_place: false,
+        sbuf: 4096,
+        rbuf: 8192,
+        count: 1,
+        dtype,
+        op,
+        root: 0,
+        comm: 1,
+    }
+}
+
 fn made_comm(alloc: Global, made: u32, members: &[u32]) -> Result<Option<MadeComm>, NoMemory> {
     let members = MemberList::from_vec(members.to_vec(alloc)?);
     Ok(Some(MadeComm { made, members }))
@@ -146,6 +187,9 @@ fn body_of(alloc: Global, act: Act) -> Result<Body, NoMemory> {
         Act::SendType(dtype) => Body::Point(send(1, dtype, 1, 1)),
         Act::Contiguous(made) => Body::Derive(contiguous(7, made)),
         Act::ContiguousOf(old, made) => Body::Derive(contiguous(old, made)),
+        Act::Vector(count, made) => Body::Derive(vector(count, made)),
+        Act::Allreduce(op, dtype) => Body::Collective(allreduce(op, dtype)),
+        Act::Reduce(op, dtype) => Body::Collective(reduce(op, dtype)),
         Act::Commit(dtype) => Body::Derive(Derive::TypeCommit { dtype }),
         Act::FreeType(dtype) => Body::Derive(Derive::TypeFree { dtype }),
         Act::Isend(request) => Body::Point(isend(request)),
@@ -159,8 +203,9 @@ fn body_of(alloc: Global, act: Act) -> Result<Body, NoMemory> {
 /// The rows of a batch, behind others.
 fn take_rows(rows: &mut Vec<Finding>, batch: &Batch) -> Result<(), NoMemory> {
     for entry in batch.entries.items() {
-        let Entry::Row { finding } = entry;
-        rows.push(*finding)?;
+        if let Entry::Row { finding } = entry {
+            rows.push(*finding)?;
+        }
     }
     Ok(())
 }
@@ -368,6 +413,76 @@ const TYPE_ROWS: [Row; 4] = [
 #[test]
 fn types(rt: HostRuntime) -> Result<(), Fail> {
     expect(&rt, rt.alloc(), &TYPES, &TYPE_ROWS)?;
+    Ok(())
+}
+
+const REDUCTIONS: [Act; 18] = [
+    Act::Init,
+    Act::Contiguous(64),
+    Act::Commit(64),
+    Act::Allreduce(3, 64),
+    Act::Allreduce(3, 7),
+    Act::Allreduce(1, 13),
+    Act::Allreduce(5, 13),
+    Act::Allreduce(5, 17),
+    Act::Allreduce(6, 4),
+    Act::Allreduce(6, 17),
+    Act::Allreduce(11, 26),
+    Act::Allreduce(11, 7),
+    Act::Allreduce(12, 30),
+    Act::Allreduce(1, 30),
+    Act::Allreduce(3, 1),
+    Act::Reduce(3, 4),
+    Act::FreeType(64),
+    Act::Finalize,
+];
+
+const REDUCTION_ROWS: [Row; 7] = [
+    (3, Rule::C6, 0, None, 3),
+    (6, Rule::C6, 0, None, 5),
+    (9, Rule::C6, 0, None, 6),
+    (11, Rule::C6, 0, None, 11),
+    (13, Rule::C6, 0, None, 1),
+    (14, Rule::C6, 0, None, 3),
+    (15, Rule::C6, 0, None, 3),
+];
+
+/// Operations that MPI names take no derived type, and not all basic ones.
+#[test]
+fn reductions(rt: HostRuntime) -> Result<(), Fail> {
+    expect(&rt, rt.alloc(), &REDUCTIONS, &REDUCTION_ROWS)?;
+    Ok(())
+}
+
+/// What the second call of a rank is refused by.
+fn refused(rt: &impl Abort, alloc: Global, act: Act) -> Result<Option<WalkFault>, NoMemory> {
+    let mut walk = RankWalk::new(alloc, 0, 2, 32767)?;
+    let init = Call {
+        returned: true,
+        body: body_of(alloc, Act::Init)?,
+    };
+    step(rt, &mut walk, &init)?;
+    let call = Call {
+        returned: true,
+        body: body_of(alloc, act)?,
+    };
+    assert!(rt; walk.may_step(&call));
+    Ok(walk.step(&call).err())
+}
+
+/// The weight of the live types is 2^26 at the most.
+#[test]
+fn weights(rt: HostRuntime) -> Result<(), Fail> {
+    let alloc = rt.alloc();
+    let fault = WalkFault::TooWide {
+        call: 1,
+        limit: Limit::TypeWeight,
+    };
+    assert_eq!(&rt; refused(&rt, alloc, Act::Vector(67_108_864, 64))?, None);
+    assert_eq!(&rt;
+        refused(&rt, alloc, Act::Vector(67_108_865, 64))?,
+        Some(fault)
+    );
     Ok(())
 }
 

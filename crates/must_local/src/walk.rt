@@ -23,6 +23,7 @@ use crate::fault::WalkFault;
 use crate::handles::Handles;
 use crate::leaks::add_leaks_at;
 use crate::members::are_members;
+use crate::reductions::add_untaken;
 use crate::rows::{add_frames, add_missing, is_finalize_call, is_init_call};
 use must_args::check_args;
 use must_base::NoMemory;
@@ -46,8 +47,12 @@ pub struct RankWalk {
 
 impl Model for RankWalk {
     ghost use Rattle.must_local.specs.Walks.{WalkState};
+    ghost use Rattle.std.specs.Coded.{codes};
+    ghost use Rattle.must_type.specs.TreeCode.{tree_code};
 
     ghost Value = { WalkState };
+
+    ghost coded = { Prim.hlevel (codes, tree_code) };
 
     ghost view = { λ w. record { rank = record { rank = w.handles.rank; size = w.size; tag_ub = w.handles.tag_ub }; number = w.number; init = w.init; finalize = w.finalize; returned = w.returned; handles = w.handles } };
 }
@@ -127,6 +132,7 @@ impl RankWalk {
         };
         add_frames(&mut rows, at, self.init, self.finalize, call)?;
         let usable = check_args(self.alloc, &self.handles, at, call, &mut rows)?;
+        add_untaken(&mut rows, at, &self.handles, call, usable.clear)?;
         let ends = ends_here(is_finalize_call(call), self.finalize);
         add_leaks_at(&mut rows, at, ends, &self.handles.lives)?;
         let _ = rows.as_slice();
@@ -141,7 +147,6 @@ impl RankWalk {
         requires next { IsNext self.old.handles.lives call.now }
         requires few { self.old.number + 1 < 2 ^ 32 }
         requires members { HasMembers (derived_of call.now.body) }
-        requires short { length (handles_of call.now.body) < 2 ^ 32 }
         requires clear { clear ≡ is_clear (facts_in self.old.handles) call.now.body }
         ensures knows { OnOk result ((version : ℕ) (calls : List Call) → Knows version self.old calls → Knows version self.new (calls ++ call.now ∷ [])) }
         ensures rank { OnOk result (self.new.rank ≡ self.old.rank) }

@@ -1,18 +1,16 @@
--- What a rank knows of its handles after some calls: its communicators, groups and types, and which calls were clear
+-- What a rank knows of its handles after some calls: its communicators and groups, and which calls were clear
 -- (docs/RULES.md).
 use Rattle.std.specs.Prelude.{ℕ, Bool, ◌&&◌, ◌==◌, if◌then◌else◌, List, [], ◌∷◌, Option, Some, None, option_map, reverse}
-use Rattle.std.specs.List.{list_all}
 use Rattle.must_call.specs.declared.constants.TheConstants.{GROUP_EMPTY}
-use Rattle.must_call.specs.declared.class.Class.TheVariants.{Group, Datatype}
+use Rattle.must_call.specs.declared.class.Class.TheVariants.{Group}
 use Rattle.must_call.specs.declared.body.Body.{Body}
 use Rattle.must_call.specs.declared.body.Body.TheVariants.{Object}
 use Rattle.must_call.specs.declared.object.Object.TheVariants.{CommGroup, GroupIncl, GroupExcl, GroupUnion, GroupIntersection, GroupDifference}
 use Rattle.must_call.specs.declared.call.Call.{Call}
-use Rattle.must_call.specs.Handles.{handles_of}
 use Rattle.must_group.specs.Groups as list
 use Rattle.must_rules.specs.Rank.{Rank}
 use Rattle.must_rules.specs.Making.{makes}
-use Rattle.must_rules.specs.Lives.{is_predefined, life, committed}
+use Rattle.must_rules.specs.Lives.{life, committed}
 use Rattle.must_rules.specs.Starts.{Clearness}
 use Rattle.must_rules.specs.Facts.{Facts, members_of}
 use Rattle.must_rules.specs.Clear.{is_clear}
@@ -67,16 +65,3 @@ facts_of r calls = facts_with r calls (group_of r calls)
 -- a call is clear where it breaks none of the rules A1 to A7 and H1 to H4, by what is known behind the earlier calls
 unfoldable pub clear_behind : Rank → Clearness
 clear_behind r earlier call = is_clear (facts_of r earlier) call.body
-
--- ---- types (MPI 3.1 section 4.1)
-
--- the same of calls of which the last stands first
-abbrev pub sound_type_by : Clearness → List Call → ℕ → Bool
-sound_type_by is_clear [] number = is_predefined Datatype number
-sound_type_by is_clear (last ∷ before) number =
-    if makes Datatype number last then is_clear (reverse before) last && list_all (λ old. sound_type_by is_clear before old.1) (handles_of last.body)
-    else sound_type_by is_clear before number
-
--- a sound type: a predefined one, or one that a clear call made of sound types
-unfoldable pub sound_type : Clearness → List Call → ℕ → Bool
-sound_type is_clear calls number = sound_type_by is_clear (reverse calls) number

@@ -4,17 +4,17 @@ use Rattle.must_call.specs.declared.life.Life.{Life}
 use Rattle.must_call.specs.declared.life.Life.TheVariants.{Never}
 use Rattle.must_rules.specs.LifeLaws.{was_never, life_more}
 use Rattle.std.specs.Prelude.{reverse}
-use Rattle.std.specs.List.{list_all}
 use Rattle.std.proofs.lemmas.List.{reverse-append, reverse-reverse}
 use Rattle.must_call.specs.declared.class.Class.TheVariants.{Comm, Group, Datatype}
 use Rattle.must_call.specs.declared.call.Call.{Call}
-use Rattle.must_call.specs.Handles.{handles_of}
 use Rattle.must_rules.specs.Rank.{Rank}
 use Rattle.must_rules.specs.Making.{makes}
 use Rattle.must_rules.specs.Lives.{life, ends, is_kept}
 use Rattle.must_rules.specs.Starts.{Clearness}
 use Rattle.must_rules.specs.Communicators.{is_there, there, is_collective_on, collectives_by, collectives, derived_of, derived_name, name_by, name_of, usable_name}
-use Rattle.must_rules.specs.Known.{sound_group, facts_with, group_by, group_of, facts_of, sound_type_by, sound_type}
+use Rattle.must_rules.specs.Known.{sound_group, facts_with, group_by, group_of, facts_of}
+use Rattle.must_type.specs.Table.{tree_at, predefined}
+use Rattle.must_rules.specs.Types.{clear_type, type_by, type_of}
 
 -- what is told of calls of which the last stands first, one call more
 latest : {X : Type 0} (f : List Call → X) (calls : List Call) (call : Call) → f (reverse (calls ++ call ∷ [])) ≡ f (call ∷ reverse calls)
@@ -41,13 +41,16 @@ group_more r calls call group =
     latest (λ cs. group_by r cs group) calls call
     ∙ ap (λ (cs : List Call). cond (makes Group group call) (sound_group (facts_with r cs (group_by r (reverse calls))) call.body) (group_by r (reverse calls) group)) (reverse-reverse calls)
 
-pub sound_more : (is_clear : Clearness) (calls : List Call) (call : Call) (number : ℕ)
-    → sound_type is_clear (calls ++ call ∷ []) number
-    ≡ cond (makes Datatype number call) (is_clear calls call && list_all (λ old. sound_type is_clear calls old.1) (handles_of call.body)) (sound_type is_clear calls number)
-unfolding sound_type
-sound_more is_clear calls call number =
-    latest (λ cs. sound_type_by is_clear cs number) calls call
-    ∙ ap (λ (cs : List Call). cond (makes Datatype number call) (is_clear cs call && list_all (λ old. sound_type_by is_clear (reverse calls) old.1) (handles_of call.body)) (sound_type_by is_clear (reverse calls) number)) (reverse-reverse calls)
+pub type_more : (is_clear : Clearness) (calls : List Call) (call : Call) (handle : ℕ)
+    → type_of is_clear (calls ++ call ∷ []) handle ≡ cond (makes Datatype handle call) (clear_type (is_clear calls call) (type_of is_clear calls) call.body) (type_of is_clear calls handle)
+unfolding type_of
+type_more is_clear calls call handle =
+    latest (λ cs. type_by is_clear cs handle) calls call
+    ∙ ap (λ (cs : List Call). cond (makes Datatype handle call) (clear_type (is_clear cs call) (type_by is_clear (reverse calls)) call.body) (type_by is_clear (reverse calls) handle)) (reverse-reverse calls)
+
+pub type_first : (is_clear : Clearness) (handle : ℕ) → type_of is_clear [] handle ≡ tree_at predefined handle
+unfolding type_of
+type_first is_clear handle = refl
 
 counts_none : (on : Bool) (l : Life) (n : ℕ) → l ≡ Never → n ≡ 0 → cond (on && is_there l) (suc n) n ≡ 0
 counts_none true l n e z = ap (λ (x : Life). cond (is_there x) (suc n) n) e ∙ z

@@ -1,6 +1,7 @@
 pub mod Run
 pub mod Streams
 pub mod Limits
+pub mod TypeLaws
 pub mod LimitLaws
 pub mod Answer
 pub mod StreamRuns
@@ -32,6 +33,8 @@ pub mod Clear
 pub mod UsableParts
 pub mod Communicators
 pub mod Known
+pub mod Types
+pub mod Reductions
 pub mod KnownLaws
 pub mod OnceLaws
 pub mod WrongLaws

@@ -3,7 +3,7 @@ use Rattle.std.specs.Prelude.{◌≡◌, ℕ, ◌==◌, if◌then◌else◌, Lis
 use Rattle.must_call.specs.declared.class.Class.TheVariants.{Comm, Group, Datatype, Operation, Request}
 use Rattle.must_call.specs.declared.call.Call.{Call}
 use Rattle.must_find.specs.declared.rule.Rule.{Rule}
-use Rattle.must_find.specs.declared.rule.Rule.TheVariants.{I1, I2, I3, A1, A2, A3, A4, A5, A6, A7, H1, H2, H3, H4, H5, L1, L2, L3, L4, L5}
+use Rattle.must_find.specs.declared.rule.Rule.TheVariants.{I1, I2, I3, A1, A2, A3, A4, A5, A6, A7, H1, H2, H3, H4, H5, C6, L1, L2, L3, L4, L5}
 use Rattle.must_find.specs.declared.finding.Finding.{Finding}
 use Rattle.must_rules.specs.Answer.{Answer, at_part}
 use Rattle.must_rules.specs.Rank.{Rank}
@@ -11,6 +11,8 @@ use Rattle.must_rules.specs.Starts.{start_of}
 use Rattle.must_rules.specs.Breaches.{Breach, answer_at}
 use Rattle.must_rules.specs.Clear.{argument_breaches}
 use Rattle.must_rules.specs.Known.{facts_of, clear_behind}
+use Rattle.must_rules.specs.Types.{sound_type}
+use Rattle.must_rules.specs.Reductions.{wrong_operation}
 use Rattle.must_rules.specs.Frames.{outside_init, after_finalize, no_finalize}
 use Rattle.must_rules.specs.Leaks.{not_freed}
 
@@ -20,6 +22,10 @@ breaches_at r earlier call = argument_breaches (facts_of r earlier) (start_of (c
 
 abbrev pub wrong_argument : Rank → (earlier : List Call) → Call → Rule → (part : ℕ) → Option Answer
 wrong_argument r earlier call rule part = answer_at r.rank (breaches_at r earlier call) rule part
+
+-- rule C6 at a call
+unfoldable pub operation_untaken : Rank → (earlier : List Call) → Call → Option Answer
+operation_untaken r earlier call = wrong_operation (facts_of r earlier) (sound_type (clear_behind r) earlier) call.body
 
 -- what a rule finds at a call by looking at it and at the earlier calls of its rank
 abbrev pub finding_behind : Rank → (earlier : List Call) → Call → Rule → (part : ℕ) → Option Answer
@@ -37,6 +43,7 @@ finding_behind r earlier call H2 part = wrong_argument r earlier call H2 part
 finding_behind r earlier call H3 part = wrong_argument r earlier call H3 part
 finding_behind r earlier call H4 part = wrong_argument r earlier call H4 part
 finding_behind r earlier call H5 part = wrong_argument r earlier call H5 part
+finding_behind r earlier call C6 part = at_part 0 (operation_untaken r earlier call) part
 finding_behind r earlier call L1 part = not_freed Datatype r earlier call part
 finding_behind r earlier call L2 part = not_freed Comm r earlier call part
 finding_behind r earlier call L3 part = not_freed Group r earlier call part

@@ -11,4 +11,4 @@ pub returns-clause-stands : goal.returns-clause-stands
 returns-clause-stands c =
     let fits : FitsSigned w32 c.args.tag_ub = search rules in
     λ r rank size tag.
-    handles_first r _ (sym rank) (to_z-of_z w32 c.args.tag_ub fits ∙ sym tag) (c.in_ok-lives.ensures (clear_behind r)) (c.in_ok-objects.ensures ∙ (λ i. first_objects (sym rank i) (sym size i)))
+    handles_first r _ (sym rank) (to_z-of_z w32 c.args.tag_ub fits ∙ sym tag) (c.in_ok-lives.ensures (clear_behind r)) (c.in_ok-types.ensures (clear_behind r)) (c.in_ok-objects.ensures ∙ (λ i. first_objects (sym rank i) (sym size i)))

@@ -1,0 +1,6 @@
+pub mod Numbering
+pub mod Sums
+pub mod Likes
+pub mod Stepping
+pub mod First
+pub mod Handing
