@@ -13,7 +13,9 @@ pub enum Want {
         standard: bool,
     },
     /// The calls of all members in the wave of a collective call, which is named by where it starts.
-    Wave { place: Place },
+    Wave {
+        place: Place,
+    },
 }
 
 /// An alternative: all of these must be reached.
