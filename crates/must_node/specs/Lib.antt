@@ -1,0 +1,13 @@
+pub mod Inner
+pub mod EntryRows
+pub mod Facts
+pub mod Settling
+pub mod Nodes
+pub mod Closing
+pub mod ListLaws
+pub mod EntryLaws
+pub mod OrderLaws
+pub mod Levels
+pub mod LevelLaws
+pub mod TreeLaws
+pub mod HandingLaws

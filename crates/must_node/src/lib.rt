@@ -1,0 +1,23 @@
+//! The node machine: entries of several ranks go in, in any lawful interleaving; what is inner to the node's ranks is settled,
+//! and the rest is handed up in order (docs/NODES.md).
+//!
+//! # Cost
+//!
+//! An entry takes what `Channels` and `Waves` take for it, and is moved, not copied. Memory is in proportion to the facts, one for
+//! each message, collective call and need that is inner, to what waits for a partner, and to the batches that stand ready.
+#![tactic(auto)]
+
+mod closed;
+mod fact;
+mod inner;
+mod laws;
+mod node;
+mod settled;
+
+pub use closed::Closed;
+pub use fact::{Fact, FactList};
+pub use laws::{
+    children_are_apart, handed_up_is_lawful, level_settles, levels_settle, node_settles,
+    one_node_settles, order_is_free,
+};
+pub use node::Node;
