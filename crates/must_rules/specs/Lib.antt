@@ -38,3 +38,6 @@ pub mod Reductions
 pub mod KnownLaws
 pub mod OnceLaws
 pub mod WrongLaws
+pub mod Parts
+pub mod Overlaps
+pub mod PendingOperations

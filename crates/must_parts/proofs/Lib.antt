@@ -1,0 +1,9 @@
+pub mod Clashing
+pub mod Laying
+pub mod Matching
+pub mod Shared
+pub mod Usable
+pub mod Rooted
+pub mod Fields
+pub mod Placing
+pub mod Rows

@@ -1,0 +1,28 @@
+//! The parts of a call: the buffers that it reads or writes, with the addresses of their elements (docs/RULES.md, "Parts"); rules T1 and T2.
+//!
+//! A part is told by what the fields of the call are for. What the rank knows of its communicators comes by a [`View`], and the
+//! types that its handles stand for by [`Datatypes`].
+//!
+//! # Cost
+//!
+//! A part takes time for the fields of its call, and laying it out for the weights of its blocks, up to a logarithm: the
+//! blocks of a list by member are joined by halves.
+#![tactic(auto)]
+
+mod blocks;
+mod lay;
+mod overlaps;
+mod placed;
+mod roles;
+mod scope;
+#[cfg(test)]
+mod tests;
+mod told;
+mod weigh;
+
+pub use blocks::Block;
+pub use lay::Laid;
+pub use overlaps::add_overlaps;
+pub use placed::{Placed, numbered, place_parts};
+pub use told::{Told, told_parts};
+pub use weigh::weight_of;
