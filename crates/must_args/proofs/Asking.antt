@@ -14,25 +14,6 @@ use Rattle.must_rules.specs.ArgumentHandles.{StartOf, wrong_handle, wrong_handle
 use Rattle.must_args.specs.declared.setting.Setting.{Setting}
 use Rattle.must_args.specs.Settings.{usable_field, usable_from}
 
--- ---- a list that is gone over
-
-pub all_there : {A B : Type 0} (f : A → B) (xs : List A) (i : ℕ) → length xs ≤ i → map f (take i xs) ≡ map f xs
-all_there f xs i all = ap (map f) (take_all i xs all)
-
--- ---- the first field that answers
-
-or_else-none : {X : Type 0} (o : Option X) → or_else o None ≡ o
-or_else-none (Some x) = refl
-or_else-none None = refl
-
-or_else-or_else : {X : Type 0} (o p q : Option X) → or_else o (or_else p q) ≡ or_else (or_else o p) q
-or_else-or_else (Some x) p q = refl
-or_else-or_else None p q = refl
-
-pub told_more : {X : Type 0} (ask : (f : Field) → Value f → Option X) (ts : List Typed) (t : Typed) → first_told ask (ts ++ t ∷ []) ≡ or_else (first_told ask ts) (ask t.0 t.1)
-told_more ask [] t = or_else-none (ask t.0 t.1)
-told_more ask (x ∷ ts) t = ap (or_else (ask x.0 x.1)) (told_more ask ts t) ∙ or_else-or_else (ask x.0 x.1) (first_told ask ts) (ask t.0 t.1)
-
 or-false : (b : Bool) → (b || false) ≡ b
 or-false true = refl
 or-false false = refl

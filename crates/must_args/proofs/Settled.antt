@@ -18,6 +18,7 @@ use Rattle.must_rules.specs.Clear.{wrong_value, wrong_field, is_clear}
 use Rattle.must_rules.specs.UsableParts.{is_usable_side, is_usable_buffer, usable_among, is_usable, usable_parts}
 use Rattle.must_args.specs.declared.setting.Setting.{Setting}
 use Rattle.must_args.specs.Settings.{told_seat, has_sense, asks, IsSetting, usable_field, usable_from}
+use Rattle.must_args.specs.SettingLaws.{significant_is}
 
 abbrev pub asked_with : Facts → List Typed → Kind → Bool → Bool → Option ℕ → ℤ → Seat → List Breach
 asked_with facts ts k place sending n tag_ub seat =
@@ -35,12 +36,6 @@ settled facts b s is =
     ∙ ap (λ x. asked_with facts ts (kind_of b) (in_place b) (sends ts) (option_map size_of_comm (comm_of facts b)) facts.tag_ub x) is.seat_is
 
 -- ---- usable
-
-significant_is : (facts : Facts) (b : Body) (s : Setting) (f : Field) → IsSetting facts b s → has_sense s f ≡ significant_in facts b f
-significant_is facts b s f is =
-    ap (λ k. is_significant k s.in_place (told_seat s.seat) f) is.kind_is
-    ∙ ap (λ x. is_significant (kind_of b) x (told_seat s.seat) f) is.in_place_is
-    ∙ ap (λ x. is_significant (kind_of b) (in_place b) x f) is.seat_is
 
 field_usable : (facts : Facts) (sound : ℕ → Bool) (b : Body) (s : Setting) (f : Field) → IsSetting facts b s → usable_field sound s (inputs_of b) f ≡ is_usable_buffer facts sound b f
 field_usable facts sound b s (Buffer side) is = ap (λ x. x && is_usable_side sound (inputs_of b) side) (significant_is facts b s (Buffer side) is)

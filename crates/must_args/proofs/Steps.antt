@@ -17,13 +17,8 @@ use Rattle.must_rules.specs.ArgumentHandles.{StartOf, wrong_handle, wrong_handle
 use Rattle.must_args.specs.declared.setting.Setting.{Setting}
 use Rattle.must_args.specs.Settings.{usable_from}
 use Rattle.must_args.proofs.Added.{adds_both, adds_as}
-use Rattle.must_args.proofs.Asking.{told_more, sends_more, asked_more, handles_more, active_more, usable_more, usable_here, handles_in}
-
-front_more : {A : Type 0} (xs : List A) (j : ℕ) (x d : A) → j < length xs → x ≡ get_or xs j d → take (j + 1) xs ≡ take j xs ++ x ∷ []
-front_more xs j x d within is = take_more xs j d within ∙ ap (λ y. take j xs ++ y ∷ []) (sym is)
-
-pub seen_more : {A B : Type 0} (f : A → B) (xs : List A) (j : ℕ) (x d : A) → j < length xs → x ≡ get_or xs j d → map f (take (j + 1) xs) ≡ map f (take j xs) ++ f x ∷ []
-seen_more f xs j x d within is = ap (map f) (front_more xs j x d within is) ∙ map-append f (take j xs) (x ∷ [])
+use Rattle.must_args.specs.AskingLaws.{front_more, seen_more, told_more}
+use Rattle.must_args.proofs.Asking.{sends_more, asked_more, handles_more, active_more, usable_more, usable_here, handles_in}
 
 seen_length : {A B : Type 0} (f : A → B) (xs : List A) (j : ℕ) → j < length xs → length (map f (take j xs)) ≡ j
 seen_length f xs j within = simp length-map (length-take-le j xs (omega (arith, within)))
@@ -35,10 +30,6 @@ handles_more_in : (ts : List Typed) (t : Typed) → handles_in (ts ++ t ∷ []) 
 handles_more_in ts t = handles_joined ts (t ∷ []) ∙ ap (λ (hs : List ClassedHandle). handles_in ts + length hs) (append-nil (typed_handles t))
 
 module _ {A : Type 0} (f : A → Typed) (xs : List A) (j : ℕ) (x : A) (within : j < length xs) (is : x ≡ get_or xs j x) where
-  pub told_step : {X : Type 0} (ask : (r : Field) → Value r → Option X) (old new : Option X) → old ≡ first_told ask (map f (take j xs)) → new ≡ or_else old (ask (f x).0 (f x).1) → new ≡ first_told ask (map f (take (j + 1) xs))
-  told_step ask old new before step =
-      step ∙ ap (λ o. or_else o (ask (f x).0 (f x).1)) before ∙ sym (ap (first_told ask) (seen_more f xs j x x within is) ∙ told_more ask (map f (take j xs)) (f x))
-
   pub sends_step : (old new : Bool) → old ≡ sends (map f (take j xs)) → new ≡ (old || is_send (side (f x).0)) → new ≡ sends (map f (take (j + 1) xs))
   sends_step old new before step =
       step ∙ ap (λ o. o || is_send (side (f x).0)) before ∙ sym (ap sends (seen_more f xs j x x within is) ∙ sends_more (map f (take j xs)) (f x))

@@ -1,2 +1,4 @@
 pub mod Settings
 pub mod Told
+pub mod AskingLaws
+pub mod SettingLaws

@@ -9,7 +9,7 @@ use Rattle.must_call.specs.Bodies.{inputs_of}
 use Rattle.must_call.specs.Handles.{typed_handles}
 use Rattle.must_rules.specs.Facts.{Facts, size_of_comm}
 use Rattle.must_rules.specs.Significant as significant
-use Rattle.must_rules.specs.Significant.{side, in_place, comm_of, seat_of, is_significant}
+use Rattle.must_rules.specs.Significant.{first_told, comm_in, root_in, side, in_place, comm_of, seat_of, is_significant}
 use Rattle.must_rules.specs.Breaches.{Breach, sends, part_of}
 use Rattle.must_rules.specs.ArgumentHandles.{is_of_buffer, wrong_handles}
 use Rattle.must_rules.specs.Clear.{wrong_value}
@@ -36,6 +36,8 @@ asks facts s i t = wrong_value s.tag_ub s.size (part_of s.sends (side t.0)) t ++
 -- the setting is that of a call
 pub record IsSetting (facts : Facts) (b : Body) (s : Setting) : Type 0 where
   pub kind_is : s.kind ≡ kind_of b
+  pub comm_is : s.comm ≡ first_told comm_in (inputs_of b)
+  pub root_is : s.root ≡ first_told root_in (inputs_of b)
   pub in_place_is : s.in_place ≡ in_place b
   pub sends_is : s.sends ≡ sends (inputs_of b)
   pub size_is : s.size ≡ option_map size_of_comm (comm_of facts b)

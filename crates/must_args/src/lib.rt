@@ -23,6 +23,7 @@ mod usable;
 mod view;
 
 pub use check::check_args;
+pub use setting::{Seat, Setting, setting_of};
 pub use usable::Usable;
 pub use view::View;
 

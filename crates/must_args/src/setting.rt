@@ -15,7 +15,7 @@ use must_call::{Argument, Body, Flag, Handle, Int, Kind, Side};
 
 /// Where a rank stands in a call.
 #[derive(Clone, Copy)]
-pub(crate) enum Seat {
+pub enum Seat {
     /// The kind has no root.
     Equal,
     /// At the first position of `MPI_Exscan`, which receives nothing.
@@ -26,15 +26,21 @@ pub(crate) enum Seat {
     NoSeat,
 }
 
-/// What the rules know of a call.
+/// What is known of a call when its fields are asked, worked out once.
 #[derive(Clone, Copy)]
-pub(crate) struct Setting {
+pub struct Setting {
     pub kind: Kind,
+    /// The handle of its communicator.
+    pub comm: Option<u32>,
+    /// Its root, as it was given.
+    pub root: Option<i32>,
+    /// The program gave `MPI_IN_PLACE`.
     pub in_place: bool,
     /// The call sends.
     pub sends: bool,
     /// How many members its communicator has; none where it isn't live and sound.
     pub size: Option<u32>,
+    /// The greatest tag (MPI 3.1, 8.1.2).
     pub tag_ub: i32,
     pub seat: Seat,
 }
@@ -253,8 +259,8 @@ fn position_in<V: View>(view: &V, comm: Option<u32>) -> Option<u32>
     }
 }
 
-/// The setting of a call with these fields.
-pub(crate) fn setting_of<V: View>(view: &V, body: &Body, arguments: &[Argument<'_>]) -> Setting
+/// What is known of a call with these fields.
+pub fn setting_of<V: View>(view: &V, body: &Body, arguments: &[Argument<'_>]) -> Setting
     requires { all_seen arguments.now ≡ inputs_of body.now }
     ensures { IsSetting (V.facts view.now) body.now result }
 {
@@ -262,6 +268,8 @@ pub(crate) fn setting_of<V: View>(view: &V, body: &Body, arguments: &[Argument<'
     let kind = body.kind();
     Setting {
         kind,
+        comm: look.comm,
+        root: look.root,
         in_place: is_true(look.in_place),
         sends: look.sends,
         size: size_in(view, look.comm),
@@ -300,8 +308,8 @@ fn names_root(argument: &Argument<'_>) -> bool
 }
 
 impl Setting {
-    /// A field is significant.
-    pub(crate) fn has_sense(&self, argument: &Argument<'_>) -> bool
+    /// Whether a field is significant (docs/RULES.md, "Significant arguments").
+    pub fn has_sense(&self, argument: &Argument<'_>) -> bool
         ensures { result ≡ has_sense self.now (seen argument.now).0 }
     {
         let side = side_of(argument);

@@ -16,7 +16,6 @@ use Rattle.must_rules.specs.LifeLaws.{life_first, made_count_first}
 use Rattle.must_rules.specs.Starts.{Clearness}
 use Rattle.must_rules.specs.Types.{type_of, sum_below, weight_at}
 use Rattle.must_rules.specs.KnownLaws.{type_first}
-use Rattle.must_rules.specs.Limits.{most_weight}
 use Rattle.must_derived.specs.declared.datatypes.Datatypes.{Datatypes}
 use Rattle.must_derived.specs.Numbers.{flat, number_of}
 use Rattle.must_derived.specs.Standing.{Suits, Fits, Stands}
@@ -128,12 +127,11 @@ numbered_first h n b e x = at (bounds h b e)
         inner true = refl
         inner false = refl
 
-pub stands_first : (is_clear : Clearness) (types : Datatypes) → types.table ≡ record { weight_limit = most_weight; slots = predefined } → types.numbers ≡ [] → Stands is_clear types []
-stands_first is_clear types table_is none =
+pub stands_first : (is_clear : Clearness) (types : Datatypes) (most : ℕ) → types.table ≡ record { weight_limit = most; slots = predefined } → types.numbers ≡ [] → Stands is_clear types []
+stands_first is_clear types most table_is none =
     let slots : types.table.slots ≡ predefined = ap (λ (t : Types). t.slots) table_is in
     let number : (h : ℕ) → number_of types.numbers h ≡ number_of [] h = λ h. ap (λ (ns : List (Option TypeNo)). number_of ns h) none in
     record {
-      limit = ap (λ (t : Types). t.weight_limit) table_is;
       size = ap length none ∙ sym made_count_first;
       fits = λ h. subst (λ (ss : List (Option TypeTree)). Fits ss (number_of types.numbers h) (life [] Datatype h) (type_of is_clear [] h)) (sym slots)
           (subst (λ (o : Option TypeNo). Fits predefined o (life [] Datatype h) (type_of is_clear [] h)) (sym (number h)) (fits_first is_clear h (is_predefined Datatype h) refl));

@@ -35,7 +35,7 @@ use Rattle.must_rules.specs.LifeLaws.{next_life, life_more, made_count_more, mad
 use Rattle.must_rules.specs.Starts.{Clearness}
 use Rattle.must_rules.specs.Types.{type_made, clear_type, type_of, sum_below, while_live, weight_at, types_weight}
 use Rattle.must_rules.specs.KnownLaws.{type_more}
-use Rattle.must_rules.specs.Limits.{most_weight, is_within_reach, type_limit, made_limit, type_limit_at}
+use Rattle.must_rules.specs.Limits.{is_within_reach, type_limit, made_limit, type_limit_at}
 use Rattle.must_rules.specs.TypeLaws.{reach_is, reach_told}
 use Rattle.must_derived.specs.declared.datatypes.Datatypes.{Datatypes}
 use Rattle.must_derived.specs.Numbers.{number_of, construct_by, type_freed, freed_type, IsNext}
@@ -145,7 +145,6 @@ stands_none is_clear calls call old new class n s e is none same grown =
     let other : (h : ℕ) → number_of new.numbers h ≡ number_of old.numbers h = λ h. ap (λ (ns : List (Option TypeNo)). number_of ns h) grown ∙ at h (h == n) refl in
     let slots : new.table.slots ≡ old.table.slots = ap (λ (t : Types). t.slots) same in
     record {
-      limit = ap (λ (t : Types). t.weight_limit) same ∙ s.limit;
       size = ap length grown ∙ size_more calls call class n old.numbers None s.size e;
       fits = λ h. fits h (h == n) refl (other h) slots;
       placed = λ h m x. subst (λ (ss : List (Option TypeTree)). m.number < length ss) (sym slots) (s.placed h m (sym (other h) ∙ x));
@@ -214,7 +213,6 @@ stands_some is_clear calls call old new n m s e is clear grows grown =
     let other : (h : ℕ) → (h ≡ n → ⊥) → number_of new.numbers h ≡ number_of old.numbers h = λ h apart. ap (λ (ns : List (Option TypeNo)). number_of ns h) grown ∙ number_other old.numbers (Some m) h (λ x. apart (x ∙ sym is)) in
     let new_type : type_of is_clear (calls ++ call ∷ []) n ≡ Some t.type = type in
     record {
-      limit = ap (λ (x : Types). x.weight_limit) grows.new_is ∙ s.limit;
       size = ap length grown ∙ size_more calls call Datatype n old.numbers (Some m) s.size e;
       fits = λ h. fits h (h == n) refl c.life type here there slots other;
       placed = λ h k x. placed h k (h == n) refl x here other longer;
@@ -367,7 +365,6 @@ stands_same is_clear calls call old new s e same unchanged =
     let slots : new.table.slots ≡ old.table.slots = ap (λ (t : Types). t.slots) same.table in
     let kept : (h : ℕ) → Fits old.table.slots (number_of old.numbers h) (life (calls ++ call ∷ []) Datatype h) (type_of is_clear (calls ++ call ∷ []) h) = λ h. fits h (unchanged h) in
     record {
-      limit = ap (λ (t : Types). t.weight_limit) same.table ∙ s.limit;
       size = ap length same.numbers ∙ s.size ∙ sym (no_more calls call e);
       fits = λ h. subst (λ (ss : List (Option TypeTree)). Fits ss (number_of new.numbers h) (life (calls ++ call ∷ []) Datatype h) (type_of is_clear (calls ++ call ∷ []) h)) (sym slots)
           (subst (λ (ns : List (Option TypeNo)). Fits old.table.slots (number_of ns h) (life (calls ++ call ∷ []) Datatype h) (type_of is_clear (calls ++ call ∷ []) h)) (sym same.numbers) (kept h));
@@ -407,7 +404,6 @@ stands_freed is_clear calls call old new d made m t s e freed number lives type 
     (leaves is_clear calls call h e).life ∙ (λ i. next_life (length calls) false (is_freed h (freed i)) (life calls Datatype h)) ∙ ap (λ b. next_life (length calls) false b (life calls Datatype h)) (ne_eqb d h apart) ∙ next_same (length calls) (life calls Datatype h) in
     let within = number_made old.numbers d m derived number in
     record {
-      limit = ap (λ (x : Types). x.weight_limit) table_is ∙ s.limit;
       size = ap length same ∙ s.size ∙ sym (no_more calls call e);
       fits = λ h. subst (λ (ss : List (Option TypeTree)). Fits ss (number_of new.numbers h) (life (calls ++ call ∷ []) Datatype h) (type_of is_clear (calls ++ call ∷ []) h)) (sym slots)
           (subst (λ (ns : List (Option TypeNo)). Fits (slice_set old.table.slots m.number None) (number_of ns h) (life (calls ++ call ∷ []) Datatype h) (type_of is_clear (calls ++ call ∷ []) h)) (sym same) (fits h (d == h) refl gone other));
@@ -527,20 +523,20 @@ reach_like t u like w = record {
 turned : (t u : TypeTree) → IsLike t u → IsLike u t
 turned t u like = record { map = sym like.map; weight = sym like.weight; depth = sym like.depth; slot = sym like.slot }
 
-fits_limit : (live : ℕ) (o : Option TypeTree) (t u : TypeTree) → o ≡ Some u → IsLike t u → live + weight t ≤ most_weight → IsWithinReach t → type_limit live o ≡ None
-fits_limit live o t u is like light within =
-    ap (type_limit live) is
-    ∙ ap (λ b. cond b (Some TypeWeight) (cond (is_within_reach u) None (Some TypeReach))) (le-ltb most_weight (live + weight u) (let w = like.weight in omega (arith, w, light)))
+fits_limit : (most live : ℕ) (o : Option TypeTree) (t u : TypeTree) → o ≡ Some u → IsLike t u → live + weight t ≤ most → IsWithinReach t → type_limit most live o ≡ None
+fits_limit most live o t u is like light within =
+    ap (type_limit most live) is
+    ∙ ap (λ b. cond b (Some TypeWeight) (cond (is_within_reach u) None (Some TypeReach))) (le-ltb most (live + weight u) (let w = like.weight in omega (arith, w, light)))
     ∙ ap (λ b. cond b None (Some TypeReach)) (reach_told u (reach_like t u like within))
 
-heavy_limit : (live : ℕ) (o : Option TypeTree) (t u : TypeTree) → o ≡ Some u → IsLike t u → most_weight < live + weight t → type_limit live o ≡ Some TypeWeight
-heavy_limit live o t u is like heavy =
-    ap (type_limit live) is ∙ ap (λ b. cond b (Some TypeWeight) (cond (is_within_reach u) None (Some TypeReach))) (lt-ltb most_weight (live + weight u) (let w = like.weight in omega (arith, w, heavy)))
+heavy_limit : (most live : ℕ) (o : Option TypeTree) (t u : TypeTree) → o ≡ Some u → IsLike t u → most < live + weight t → type_limit most live o ≡ Some TypeWeight
+heavy_limit most live o t u is like heavy =
+    ap (type_limit most live) is ∙ ap (λ b. cond b (Some TypeWeight) (cond (is_within_reach u) None (Some TypeReach))) (lt-ltb most (live + weight u) (let w = like.weight in omega (arith, w, heavy)))
 
-wide_limit : (live : ℕ) (o : Option TypeTree) (t u : TypeTree) → o ≡ Some u → IsLike t u → live + weight t ≤ most_weight → (IsWithinReach t → ⊥) → type_limit live o ≡ Some TypeReach
-wide_limit live o t u is like light wide =
-    ap (type_limit live) is
-    ∙ ap (λ b. cond b (Some TypeWeight) (cond (is_within_reach u) None (Some TypeReach))) (le-ltb most_weight (live + weight u) (let w = like.weight in omega (arith, w, light)))
+wide_limit : (most live : ℕ) (o : Option TypeTree) (t u : TypeTree) → o ≡ Some u → IsLike t u → live + weight t ≤ most → (IsWithinReach t → ⊥) → type_limit most live o ≡ Some TypeReach
+wide_limit most live o t u is like light wide =
+    ap (type_limit most live) is
+    ∙ ap (λ b. cond b (Some TypeWeight) (cond (is_within_reach u) None (Some TypeReach))) (le-ltb most (live + weight u) (let w = like.weight in omega (arith, w, light)))
     ∙ ap (λ b. cond b None (Some TypeReach)) (beyond (is_within_reach u) refl)
   where
     beyond : (b : Bool) → is_within_reach u ≡ b → is_within_reach u ≡ false
@@ -548,55 +544,55 @@ wide_limit live o t u is like light wide =
     beyond false e = e
 
 -- what the call's limit is where it makes a handle of this class
-limit_by : (is_clear : Clearness) (calls : List Call) (call : Call) (class : Class) (n : ℕ) → made_by call ≡ Some (class, n)
-    → type_limit_at is_clear calls call ≡ cond (same_class class Datatype) (type_limit (types_weight is_clear calls) (clear_type (is_clear calls call) (type_of is_clear calls) call.body)) None
+limit_by : (most : ℕ) (is_clear : Clearness) (calls : List Call) (call : Call) (class : Class) (n : ℕ) → made_by call ≡ Some (class, n)
+    → type_limit_at most is_clear calls call ≡ cond (same_class class Datatype) (type_limit most (types_weight is_clear calls) (clear_type (is_clear calls call) (type_of is_clear calls) call.body)) None
 unfolding type_limit_at
-limit_by is_clear calls call class n e = ap (λ (o : Option ClassedHandle). made_limit o (types_weight is_clear calls) (clear_type (is_clear calls call) (type_of is_clear calls) call.body)) e
+limit_by most is_clear calls call class n e = ap (λ (o : Option ClassedHandle). made_limit o most (types_weight is_clear calls) (clear_type (is_clear calls call) (type_of is_clear calls) call.body)) e
 
-pub left_limit : (is_clear : Clearness) (calls : List Call) (call : Call) → made_by call ≡ None → type_limit_at is_clear calls call ≡ None
+pub left_limit : (most : ℕ) (is_clear : Clearness) (calls : List Call) (call : Call) → made_by call ≡ None → type_limit_at most is_clear calls call ≡ None
 unfolding type_limit_at
-left_limit is_clear calls call e = ap (λ (o : Option ClassedHandle). made_limit o (types_weight is_clear calls) (clear_type (is_clear calls call) (type_of is_clear calls) call.body)) e
+left_limit most is_clear calls call e = ap (λ (o : Option ClassedHandle). made_limit o most (types_weight is_clear calls) (clear_type (is_clear calls call) (type_of is_clear calls) call.body)) e
 
 clear_made : (is_clear : Clearness) (calls : List Call) (call : Call) → is_clear calls call ≡ true → clear_type (is_clear calls call) (type_of is_clear calls) call.body ≡ type_made (type_of is_clear calls) call.body
 clear_made is_clear calls call e = ap (λ b. clear_type b (type_of is_clear calls) call.body) e
 
 pub made_within : (is_clear : Clearness) (calls : List Call) (call : Call) (old : Datatypes) (table : Types) (class : Class) (n : ℕ) (clear : Bool) (m : Option TypeNo) → Stands is_clear old calls → made_by call ≡ Some (class, n) → clear ≡ is_clear calls call
-    → MakesOf class clear old.table old.numbers call.body m table → type_limit_at is_clear calls call ≡ None
+    → MakesOf class clear old.table old.numbers call.body m table → type_limit_at old.table.weight_limit is_clear calls call ≡ None
 made_within is_clear calls call old table Datatype n true (Some m) s e clear makes =
     let t = typed is_clear calls call old makes.builds s in
-    limit_by is_clear calls call Datatype n e
-    ∙ fits_limit (types_weight is_clear calls) (clear_type (is_clear calls call) (type_of is_clear calls) call.body) (built old.table old.numbers call.body makes.builds) t.type
-    (clear_made is_clear calls call (sym clear) ∙ t.is) t.like (let l = s.limit in let w = s.weighs in omega (arith, makes.light, l, w)) makes.within
+    limit_by old.table.weight_limit is_clear calls call Datatype n e
+    ∙ fits_limit old.table.weight_limit (types_weight is_clear calls) (clear_type (is_clear calls call) (type_of is_clear calls) call.body) (built old.table old.numbers call.body makes.builds) t.type
+    (clear_made is_clear calls call (sym clear) ∙ t.is) t.like (let w = s.weighs in omega (arith, makes.light, w)) makes.within
 made_within is_clear calls call old table Datatype n true None s e clear makes =
-    limit_by is_clear calls call Datatype n e ∙ ap (type_limit (types_weight is_clear calls)) (clear_made is_clear calls call (sym clear) ∙ untyped is_clear calls old call.body s makes.0)
+    limit_by old.table.weight_limit is_clear calls call Datatype n e ∙ ap (type_limit old.table.weight_limit (types_weight is_clear calls)) (clear_made is_clear calls call (sym clear) ∙ untyped is_clear calls old call.body s makes.0)
 made_within is_clear calls call old table Datatype n false m s e clear makes =
-    limit_by is_clear calls call Datatype n e ∙ ap (λ b. type_limit (types_weight is_clear calls) (clear_type b (type_of is_clear calls) call.body)) (sym clear)
-made_within is_clear calls call old table Comm n clear m s e c makes = limit_by is_clear calls call Comm n e
-made_within is_clear calls call old table Group n clear m s e c makes = limit_by is_clear calls call Group n e
-made_within is_clear calls call old table Operation n clear m s e c makes = limit_by is_clear calls call Operation n e
-made_within is_clear calls call old table Request n clear m s e c makes = limit_by is_clear calls call Request n e
+    limit_by old.table.weight_limit is_clear calls call Datatype n e ∙ ap (λ b. type_limit old.table.weight_limit (types_weight is_clear calls) (clear_type b (type_of is_clear calls) call.body)) (sym clear)
+made_within is_clear calls call old table Comm n clear m s e c makes = limit_by old.table.weight_limit is_clear calls call Comm n e
+made_within is_clear calls call old table Group n clear m s e c makes = limit_by old.table.weight_limit is_clear calls call Group n e
+made_within is_clear calls call old table Operation n clear m s e c makes = limit_by old.table.weight_limit is_clear calls call Operation n e
+made_within is_clear calls call old table Request n clear m s e c makes = limit_by old.table.weight_limit is_clear calls call Request n e
 
-refused_type : (is_clear : Clearness) (calls : List Call) (call : Call) (old : Datatypes) (n : ℕ) (f : TypeFault) → Stands is_clear old calls → made_by call ≡ Some (Datatype, n) → is_clear calls call ≡ true → IsRefused old.table old.numbers call.body f → IsTypeLimit (type_limit_at is_clear calls call) f
+refused_type : (is_clear : Clearness) (calls : List Call) (call : Call) (old : Datatypes) (n : ℕ) (f : TypeFault) → Stands is_clear old calls → made_by call ≡ Some (Datatype, n) → is_clear calls call ≡ true → IsRefused old.table old.numbers call.body f → IsTypeLimit (type_limit_at old.table.weight_limit is_clear calls call) f
 refused_type is_clear calls call old n (fault.TooWide Weight) s e clear refused =
     let t = typed is_clear calls call old refused.builds s in
-    limit_by is_clear calls call Datatype n e
-    ∙ heavy_limit (types_weight is_clear calls) (clear_type (is_clear calls call) (type_of is_clear calls) call.body) (built old.table old.numbers call.body refused.builds) t.type
-    (clear_made is_clear calls call clear ∙ t.is) t.like (let l = s.limit in let w = s.weighs in omega (arith, refused.heavy, l, w))
+    limit_by old.table.weight_limit is_clear calls call Datatype n e
+    ∙ heavy_limit old.table.weight_limit (types_weight is_clear calls) (clear_type (is_clear calls call) (type_of is_clear calls) call.body) (built old.table old.numbers call.body refused.builds) t.type
+    (clear_made is_clear calls call clear ∙ t.is) t.like (let w = s.weighs in omega (arith, refused.heavy, w))
 refused_type is_clear calls call old n (fault.TooWide Reach) s e clear refused =
     let t = typed is_clear calls call old refused.builds s in
-    limit_by is_clear calls call Datatype n e
-    ∙ wide_limit (types_weight is_clear calls) (clear_type (is_clear calls call) (type_of is_clear calls) call.body) (built old.table old.numbers call.body refused.builds) t.type
-    (clear_made is_clear calls call clear ∙ t.is) t.like (let l = s.limit in let w = s.weighs in omega (arith, refused.light, l, w)) refused.wide
+    limit_by old.table.weight_limit is_clear calls call Datatype n e
+    ∙ wide_limit old.table.weight_limit (types_weight is_clear calls) (clear_type (is_clear calls call) (type_of is_clear calls) call.body) (built old.table old.numbers call.body refused.builds) t.type
+    (clear_made is_clear calls call clear ∙ t.is) t.like (let w = s.weighs in omega (arith, refused.light, w)) refused.wide
 refused_type is_clear calls call old n fault.NoMemory s e clear refused = tt
 
 short : (o : Option Limit) (f : TypeFault) → f ≡ fault.NoMemory → IsTypeLimit o f
 short o f e = subst (λ (x : TypeFault). IsTypeLimit o x) (sym e) tt
 
 pub made_over : (is_clear : Clearness) (calls : List Call) (call : Call) (old : Datatypes) (class : Class) (n : ℕ) (clear : Bool) (f : TypeFault) → Stands is_clear old calls → made_by call ≡ Some (class, n) → clear ≡ is_clear calls call
-    → IsRefusedOf class clear old.table old.numbers call.body f → IsTypeLimit (type_limit_at is_clear calls call) f
+    → IsRefusedOf class clear old.table old.numbers call.body f → IsTypeLimit (type_limit_at old.table.weight_limit is_clear calls call) f
 made_over is_clear calls call old Datatype n true f s e clear refused = refused_type is_clear calls call old n f s e (sym clear) refused
-made_over is_clear calls call old Datatype n false f s e clear refused = short (type_limit_at is_clear calls call) f refused
-made_over is_clear calls call old Comm n clear f s e c refused = short (type_limit_at is_clear calls call) f refused
-made_over is_clear calls call old Group n clear f s e c refused = short (type_limit_at is_clear calls call) f refused
-made_over is_clear calls call old Operation n clear f s e c refused = short (type_limit_at is_clear calls call) f refused
-made_over is_clear calls call old Request n clear f s e c refused = short (type_limit_at is_clear calls call) f refused
+made_over is_clear calls call old Datatype n false f s e clear refused = short (type_limit_at old.table.weight_limit is_clear calls call) f refused
+made_over is_clear calls call old Comm n clear f s e c refused = short (type_limit_at old.table.weight_limit is_clear calls call) f refused
+made_over is_clear calls call old Group n clear f s e c refused = short (type_limit_at old.table.weight_limit is_clear calls call) f refused
+made_over is_clear calls call old Operation n clear f s e c refused = short (type_limit_at old.table.weight_limit is_clear calls call) f refused
+made_over is_clear calls call old Request n clear f s e c refused = short (type_limit_at old.table.weight_limit is_clear calls call) f refused

@@ -15,7 +15,6 @@ use Rattle.must_type.specs.Table.{tree_at, live_weight, slot_weight, IsDerived}
 use Rattle.must_rules.specs.Lives.{life, made_count}
 use Rattle.must_rules.specs.Starts.{Clearness}
 use Rattle.must_rules.specs.Types.{type_of, types_weight}
-use Rattle.must_rules.specs.Limits.{most_weight}
 use Rattle.must_derived.specs.declared.datatypes.Datatypes.{Datatypes}
 use Rattle.must_derived.specs.Numbers.{number_of}
 
@@ -46,7 +45,6 @@ Fits slots None life t = t ≡ None
 Fits slots (Some n) life t = Suits (tree_at slots n.number) life t
 
 pub record Stands (is_clear : Clearness) (types : Datatypes) (calls : List Call) : Type 0 where
-  pub limit : types.table.weight_limit ≡ most_weight
   pub size : length types.numbers ≡ made_count calls
   pub fits : (handle : ℕ) → Fits types.table.slots (number_of types.numbers handle) (life calls Datatype handle) (type_of is_clear calls handle)
   pub placed : (handle : ℕ) (n : TypeNo) → number_of types.numbers handle ≡ Some n → n.number < length types.table.slots

@@ -16,9 +16,6 @@ use must_handle::made;
 use must_type::{TypeFault, TypeHandles, TypeNo, TypeTable, construct_of};
 use std::alloc::Global;
 
-/// The greatest sum of the weights of a rank's live derived types.
-const MOST_WEIGHT: u64 = 0x400_0000;
-
 /// The datatypes that the calls of a rank made so far.
 #[derive(Drop)]
 pub struct Datatypes {
@@ -40,11 +37,12 @@ fn freed_type(call: &Call) -> Option<u32>
 }
 
 impl Datatypes {
-    /// Those before the first call.
-    pub fn new(alloc: Global) -> Result<Datatypes, NoMemory>
-        ensures { IfOk result (λ types. (is_clear : Clearness) → Stands is_clear types []) }
+    /// Those before the first call. The weights of live derived types may be `most` together.
+    pub fn new(alloc: Global, most: u64) -> Result<Datatypes, NoMemory>
+        ensures stands { IfOk result (λ types. (is_clear : Clearness) → Stands is_clear types []) }
+        ensures limit { IfOk result (λ types. types.table.weight_limit ≡ most) }
     {
-        let table = TypeTable::new(alloc, MOST_WEIGHT)?;
+        let table = TypeTable::new(alloc, most)?;
         Ok(Datatypes {
             table,
             numbers: Numbers::new(alloc),
@@ -76,6 +74,7 @@ impl Datatypes {
     /// Makes what a clear call makes.
     fn make(&mut self, alloc: Global, body: &Body) -> Result<Option<TypeNo>, TypeFault>
         ensures makes { IfOk result (λ no. Makes self.old.table self.old.numbers body.now no self.new.table) }
+        ensures limit { OnOk result (self.new.table.weight_limit ≡ self.old.table.weight_limit) }
         ensures over { IfErr result (IsRefused self.old.table self.old.numbers body.now) }
         ensures numbers { self.new.numbers ≡ self.old.numbers }
     {
@@ -101,6 +100,7 @@ impl Datatypes {
         clear: bool,
     ) -> Result<Option<TypeNo>, TypeFault>
         ensures makes { IfOk result (λ no. MakesOf class clear self.old.table self.old.numbers call.now.body no self.new.table) }
+        ensures limit { OnOk result (self.new.table.weight_limit ≡ self.old.table.weight_limit) }
         ensures over { IfErr result (IsRefusedOf class clear self.old.table self.old.numbers call.now.body) }
         ensures numbers { self.new.numbers ≡ self.old.numbers }
     {
@@ -119,6 +119,7 @@ impl Datatypes {
     /// Frees what a call frees.
     fn free(&mut self, call: &Call)
         ensures frees { FreesAt self.old.table (number_freed self.old.numbers (freed_type call.now)) self.new.table }
+        ensures limit { self.new.table.weight_limit ≡ self.old.table.weight_limit }
         ensures numbers { self.new.numbers ≡ self.old.numbers }
     {
         let Some(handle) = freed_type(call) else {
@@ -135,9 +136,10 @@ impl Datatypes {
     /// Takes the next call; `clear` says whether it is. The handle that it makes, if any, is to have the next number. `TooWide` comes
     /// exactly where the type that it makes reaches a limit; the types aren't to be used any more then.
     pub fn take(&mut self, alloc: Global, call: &Call, clear: bool) -> Result<(), TypeFault>
+        ensures limit { OnOk result (self.new.table.weight_limit ≡ self.old.table.weight_limit) }
         ensures stands { OnOk result ((is_clear : Clearness) (calls : List Call) → IsNext self.old.numbers call.now → clear ≡ is_clear calls call.now → Stands is_clear self.old calls → Stands is_clear self.new (calls ++ call.now ∷ [])) }
-        ensures within { OnOk result ((is_clear : Clearness) (calls : List Call) → clear ≡ is_clear calls call.now → Stands is_clear self.old calls → type_limit_at is_clear calls call.now ≡ None) }
-        ensures over { IfErr result (λ fault. (is_clear : Clearness) (calls : List Call) → clear ≡ is_clear calls call.now → Stands is_clear self.old calls → IsTypeLimit (type_limit_at is_clear calls call.now) fault) }
+        ensures within { OnOk result ((is_clear : Clearness) (calls : List Call) → clear ≡ is_clear calls call.now → Stands is_clear self.old calls → type_limit_at self.old.table.weight_limit is_clear calls call.now ≡ None) }
+        ensures over { IfErr result (λ fault. (is_clear : Clearness) (calls : List Call) → clear ≡ is_clear calls call.now → Stands is_clear self.old calls → IsTypeLimit (type_limit_at self.old.table.weight_limit is_clear calls call.now) fault) }
     {
         match made(call) {
             None => {

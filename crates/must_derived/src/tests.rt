@@ -12,6 +12,9 @@ const INT: u32 = 7;
 
 const DOUBLE: u32 = 14;
 
+/// What the live types of a rank alone may weigh.
+const MOST: u64 = 1 << 26;
+
 /// A call in short, with its handles. It returned, unless the name says otherwise.
 #[derive(Clone, Copy)]
 enum Act {
@@ -75,7 +78,7 @@ fn call(alloc: Global, act: Act) -> Result<Call, NoMemory> {
 
 /// The types after these calls, all of which are clear.
 fn types(rt: &impl Abort, alloc: Global, acts: &[Act]) -> Result<Datatypes, NoMemory> {
-    let mut types = Datatypes::new(alloc)?;
+    let mut types = Datatypes::new(alloc, MOST)?;
     for act in acts {
         let call = call(alloc, *act)?;
         match types.take(alloc, &call, true) {

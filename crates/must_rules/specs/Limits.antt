@@ -1,5 +1,5 @@
 -- Limits on what is kept of a rank (docs/FORMAT.md, "Limits"), so far three: the first call that reaches one refuses its stream there.
-use Rattle.std.specs.Prelude.{◌≡◌, ℕ, ◌+◌, ◌^◌, nat_le, nat_lt, ℤ, pos, ◌-ℤ◌, int_le, Bool, false, ◌&&◌, nat_eq, if◌then◌else◌, List, length, take, Option, Some, None, slice_get}
+use Rattle.std.specs.Prelude.{◌≡◌, ℕ, ◌+◌, ◌/◌, ◌^◌, nat_le, nat_lt, ℤ, pos, ◌-ℤ◌, int_le, Bool, false, ◌&&◌, nat_eq, if◌then◌else◌, List, length, take, Option, Some, None, slice_get}
 use Rattle.std.specs.List.{list_all}
 use Rattle.must_call.specs.declared.class.Class.TheVariants.{Comm, Datatype}
 use Rattle.must_call.specs.declared.call.Call.{Call}
@@ -42,9 +42,9 @@ path_limit deep = if deep then Some limit.Path else None
 
 -- ---- types
 
--- the greatest sum of the weights of a rank's live derived types (docs/TYPES.md)
-abbrev pub most_weight : ℕ
-most_weight = 2 ^ 26
+-- the greatest sum of the weights of the live derived types of a rank (docs/TYPES.md), in a run of so many
+abbrev pub most_weight : (size : ℕ) → ℕ
+most_weight size = 2 ^ 26 / size
 
 abbrev pub is_near : ℤ → Bool
 is_near at = int_le (pos 0 -ℤ pos (2 ^ 62)) at && int_le at (pos (2 ^ 62))
@@ -59,20 +59,20 @@ is_within_reach t =
     && (nat_le (size (type_map t)) (2 ^ 62)
     && (is_near (lower (type_map t)) && (is_near (upper (type_map t)) && list_all is_near_entry (type_map t))))
 
--- the limit that a type reaches beside live ones of this weight
-abbrev pub type_limit : ℕ → Option TypeTree → Option Limit
-type_limit live None = None
-type_limit live (Some t) = if nat_lt most_weight (live + weight t) then Some limit.TypeWeight else if is_within_reach t then None else Some limit.TypeReach
+-- the limit that a type reaches beside live ones of this weight, where the weights may be `most`
+abbrev pub type_limit : (most live : ℕ) → Option TypeTree → Option Limit
+type_limit most live None = None
+type_limit most live (Some t) = if nat_lt most (live + weight t) then Some limit.TypeWeight else if is_within_reach t then None else Some limit.TypeReach
 
 -- that of the type that a call makes, where it makes a handle of one
-abbrev pub made_limit : Option ClassedHandle → (live : ℕ) → Option TypeTree → Option Limit
-made_limit None live t = None
-made_limit (Some h) live t = if same_class h.0 Datatype then type_limit live t else None
+abbrev pub made_limit : Option ClassedHandle → (most live : ℕ) → Option TypeTree → Option Limit
+made_limit None most live t = None
+made_limit (Some h) most live t = if same_class h.0 Datatype then type_limit most live t else None
 
 -- a clear call makes a type of sound ones
-unfoldable pub type_limit_at : Clearness → List Call → Call → Option Limit
-type_limit_at is_clear earlier call =
-    made_limit (made_by call) (types_weight is_clear earlier) (clear_type (is_clear earlier call) (type_of is_clear earlier) call.body)
+unfoldable pub type_limit_at : (most : ℕ) → Clearness → List Call → Call → Option Limit
+type_limit_at most is_clear earlier call =
+    made_limit (made_by call) most (types_weight is_clear earlier) (clear_type (is_clear earlier call) (type_of is_clear earlier) call.body)
 
 -- ---- all of them
 
@@ -83,7 +83,7 @@ or_limit None other = other
 
 -- the limit that a call reaches behind the earlier ones
 abbrev pub limit_at : Rank → List Call → Call → Option Limit
-limit_at r earlier call = or_limit (type_limit_at (clear_behind r) earlier call) (path_limit (is_too_deep r earlier call))
+limit_at r earlier call = or_limit (type_limit_at (most_weight r.size) (clear_behind r) earlier call) (path_limit (is_too_deep r earlier call))
 
 -- none of the calls reaches one
 abbrev pub IsWithin : Rank → List Call → Type 0

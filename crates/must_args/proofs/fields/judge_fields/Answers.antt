@@ -5,7 +5,8 @@ use Rattle.must_call.specs.Arguments.{seen}
 use Rattle.must_rules.specs.Breaches.{AddsBreaches, asked_from}
 use Rattle.must_args.specs.Settings.{has_sense, asks}
 use Rattle.must_args.proofs.Added.{adds_none}
-use Rattle.must_args.proofs.Asking.{all_there, handles_in}
+use Rattle.must_args.specs.AskingLaws.{all_there}
+use Rattle.must_args.proofs.Asking.{handles_in}
 use Rattle.must_args.proofs.Steps.{fields_step, count_step, count_within}
 use Rattle.must_args.proofs.fields.judge_fields.Goals as goal
 

@@ -2,8 +2,9 @@ use Rattle.std.proofs.Common.{ap, ◌∙◌, ◌||◌}
 use Rattle.must_call.specs.Arguments.{seen}
 use Rattle.must_rules.specs.Significant.{or_else, first_told, comm_in, root_in, in_place_in, is_send}
 use Rattle.must_rules.specs.Breaches.{sends}
-use Rattle.must_args.proofs.Asking.{all_there}
-use Rattle.must_args.proofs.Steps.{told_step, sends_step}
+use Rattle.must_args.specs.AskingLaws.{all_there}
+use Rattle.must_args.specs.AskingLaws.{told_step}
+use Rattle.must_args.proofs.Steps.{sends_step}
 use Rattle.must_args.proofs.setting.look_at.Goals as goal
 
 pub loop-argument-preserved : goal.loop-argument-preserved

@@ -2,8 +2,8 @@ use Rattle.std.proofs.Common.{ap, ◌∙◌}
 use Rattle.must_call.specs.Arguments.{seen}
 use Rattle.must_rules.specs.Significant.{or_else, first_told}
 use Rattle.must_rules.specs.UsableParts.{peer_in}
-use Rattle.must_args.proofs.Asking.{all_there}
-use Rattle.must_args.proofs.Steps.{told_step}
+use Rattle.must_args.specs.AskingLaws.{all_there}
+use Rattle.must_args.specs.AskingLaws.{told_step}
 use Rattle.must_args.proofs.usable.peer_of.Goals as goal
 
 pub loop-argument-preserved : goal.loop-argument-preserved

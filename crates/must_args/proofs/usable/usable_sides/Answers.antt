@@ -2,7 +2,8 @@ use Rattle.std.proofs.Common.{ℕ, ◌+◌, ◌≡◌, Bool, ◌||◌, ◌&&◌,
 use Rattle.std.specs.Prelude.{if◌then◌else◌}
 use Rattle.must_call.specs.Arguments.{seen, all_seen}
 use Rattle.must_args.specs.Settings.{usable_field, usable_from}
-use Rattle.must_args.proofs.Asking.{all_there, usable_here}
+use Rattle.must_args.specs.AskingLaws.{all_there}
+use Rattle.must_args.proofs.Asking.{usable_here}
 use Rattle.must_args.proofs.Steps.{usable_step}
 use Rattle.must_args.proofs.usable.usable_sides.Goals as goal
 

@@ -14,7 +14,7 @@ returns-in_err-no-in-Some-clause-over c =
     let f = c.in_err-no-in-Some.field-0.0 in
     let call = c.args.call.now in
     handed_on c.from_residual.result p.0 f
-    (λ fault. (is_clear : Clearness) (calls : List Call) → c.args.clear ≡ is_clear calls call → Stands is_clear c.args.self.now calls → IsTypeLimit (type_limit_at is_clear calls call) fault) p.1 p.2
+    (λ fault. (is_clear : Clearness) (calls : List Call) → c.args.clear ≡ is_clear calls call → Stands is_clear c.args.self.now calls → IsTypeLimit (type_limit_at c.args.self.now.table.weight_limit is_clear calls call) fault) p.1 p.2
     (λ is_clear calls clear s. made_over is_clear calls call c.args.self.now c.in-Some.class c.in-Some._number c.args.clear f s (sym c.made.ensures ∙ c.in-Some.is) clear c.in_err-no-in-Some.ensures.over)
 
 pub returns-in-None-clause-stands : goal.returns-in-None-clause-stands
@@ -22,7 +22,7 @@ returns-in-None-clause-stands c = λ is_clear calls next clear s.
     stands_left is_clear calls c.args.call.now c.args.self.now c.free.new.self s (sym c.made.ensures ∙ c.in-None.is) c.free.ensures.frees c.free.ensures.numbers
 
 pub returns-in-None-clause-within : goal.returns-in-None-clause-within
-returns-in-None-clause-within c = λ is_clear calls clear s. left_limit is_clear calls c.args.call.now (sym c.made.ensures ∙ c.in-None.is)
+returns-in-None-clause-within c = λ is_clear calls clear s. left_limit c.args.self.now.table.weight_limit is_clear calls c.args.call.now (sym c.made.ensures ∙ c.in-None.is)
 
 pub returns-in_ok-push-in-Some-clause-stands : goal.returns-in_ok-push-in-Some-clause-stands
 returns-in_ok-push-in-Some-clause-stands c = λ is_clear calls next clear s.
