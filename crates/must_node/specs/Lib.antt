@@ -11,3 +11,7 @@ pub mod Levels
 pub mod LevelLaws
 pub mod TreeLaws
 pub mod HandingLaws
+pub mod Partners
+pub mod RunNeeds
+pub mod Indexed
+pub mod Waits

@@ -1,12 +1,17 @@
 //! What a node closes with.
 
-ghost use Rattle.std.specs.Prelude.{◌≡◌, ◌⊎◌, ◌↔◌, ◌++◌, OnOk};
+ghost use Rattle.std.specs.Prelude.{◌≡◌, ◌⊎◌, ◌↔◌, ◌++◌, OnOk, IfOk};
 ghost use Rattle.must_base.specs.Listing.{Has};
 ghost use Rattle.must_find.specs.declared.finding.Finding.{Finding};
+ghost use Rattle.must_node.specs.RunNeeds.{run_needs};
+ghost use Rattle.must_node.specs.Waits.{IsWaitRow};
 
 use crate::fact::FactList;
+use crate::needs::run_rows;
+use crate::waits::add_waits;
 use must_base::NoMemory;
 use must_find::Findings;
+use std::alloc::Global;
 
 /// The rows and the facts of some entries.
 #[derive(Drop)]
@@ -24,5 +29,19 @@ impl Closed {
         let Closed { findings, facts } = other;
         self.findings.merge(&findings)?;
         self.facts.join(facts)
+    }
+
+    /// The rows with W1 and W2 of a run of `size` ranks, whose facts these are: they tell at which calls ranks are blocked.
+    ///
+    /// Under `strict` a standard send waits for its receive; else it never waits. `NoMemory` comes where memory is short, and
+    /// where a rank has 2^31 calls or more.
+    pub fn blocked(self, alloc: Global, size: u32, strict: bool) -> Result<Findings, NoMemory>
+        ensures { IfOk result (λ found. (f : Finding) → Has found f ↔ (Has self.findings f ⊎ IsWaitRow (run_needs strict self.facts size) f)) }
+    {
+        let Closed { findings, facts } = self;
+        let rows = run_rows(alloc, facts.items(), size, strict)?;
+        let mut found = findings;
+        add_waits(alloc, &rows, &mut found)?;
+        Ok(found)
     }
 }

@@ -9,10 +9,14 @@
 
 mod closed;
 mod fact;
+mod index;
 mod inner;
+mod keys;
 mod laws;
+mod needs;
 mod node;
 mod settled;
+mod waits;
 
 pub use closed::Closed;
 pub use fact::{Fact, FactList};

@@ -1,4 +1,4 @@
-use Rattle.std.proofs.Common.{◌≡◌, true, false, not, [], ◌∷◌, ◌++◌, List, refl, sym, ap, ◌∙◌, append_assoc}
+use Rattle.std.proofs.Common.{◌≡◌, true, false, not, [], ◌∷◌, ◌++◌, List, sym, ap, ◌∙◌, append_assoc}
 use Rattle.std.specs.Vec.Iter.{into_iter_items}
 use Rattle.must_entry.specs.declared.entry.Entry.{Entry}
 use Rattle.must_node.specs.Inner.{is_inner, inner}

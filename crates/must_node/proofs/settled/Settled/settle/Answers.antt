@@ -1,4 +1,4 @@
-use Rattle.std.proofs.Common.{[], ◌∷◌, ◌++◌, refl, sym, subst, ◌∙◌, ap, List}
+use Rattle.std.proofs.Common.{[], ◌∷◌, ◌++◌, refl, sym, subst, ◌∙◌, ap}
 use Rattle.must_p2p.specs.Items.{Orderly}
 use Rattle.must_coll.specs.Waves as waves
 use Rattle.must_entry.specs.declared.entry.Entry.{Entry}

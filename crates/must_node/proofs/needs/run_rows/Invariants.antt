@@ -1,0 +1,6 @@
+use Rattle.std.proofs.Common.{◌≡◌, take}
+use Rattle.must_node.specs.RunNeeds.{ranks_from}
+use Rattle.must_node.proofs.needs.run_rows.Given as goal
+
+abbrev pub invariant-loop-fact : goal.invariant-loop-fact
+invariant-loop-fact l = l.rows ≡ ranks_from l.strict l.facts (take l.fact-index l.facts) 0 l.size
