@@ -15,3 +15,4 @@ pub mod Partners
 pub mod RunNeeds
 pub mod Indexed
 pub mod Waits
+pub mod Sharing
