@@ -16,3 +16,5 @@ pub mod RunNeeds
 pub mod Indexed
 pub mod Waits
 pub mod Sharing
+pub mod PartnerLaws
+pub mod MemberLaws

@@ -1,4 +1,4 @@
-use Rattle.std.proofs.Common.{◌≡◌, ◌++◌, ◌∷◌, [], None, refl, sym, ap, subst, ◌∙◌, arith}
+use Rattle.std.proofs.Common.{◌≡◌, ◌++◌, ◌∷◌, [], None, refl, sym, ap, subst, arith}
 use Rattle.must_entry.specs.Entries.{Waits}
 use Rattle.must_wait.specs.Needs.{calls_of, needs_of}
 use Rattle.must_node.specs.declared.fact.Fact.{Fact}

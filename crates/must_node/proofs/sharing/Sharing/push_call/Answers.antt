@@ -1,4 +1,4 @@
-use Rattle.std.proofs.Common.{◌≡◌, ◌++◌, ◌∷◌, [], ap, ◌∙◌}
+use Rattle.std.proofs.Common.{◌++◌, ◌∷◌, [], ap, ◌∙◌}
 use Rattle.std.specs.Prelude.{slice_set}
 use Rattle.must_wait.specs.Needs.{Needs, Rows, calls_of}
 use Rattle.must_wait.specs.Shared.{Table}

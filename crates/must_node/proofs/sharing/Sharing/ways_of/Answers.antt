@@ -1,4 +1,4 @@
-use Rattle.std.proofs.Common.{◌≡◌, ◌+◌, List, [], ◌∷◌, ◌++◌, map, take, sym, ap, subst, ◌∙◌}
+use Rattle.std.proofs.Common.{◌+◌, List, [], ◌∷◌, ◌++◌, map, take, sym, subst}
 use Rattle.must_call.specs.declared.place.Place.{Place}
 use Rattle.must_entry.specs.declared.want.Want.{Want}
 use Rattle.must_wait.specs.declared.way.Way.{Way}
