@@ -18,3 +18,4 @@ pub mod Waits
 pub mod Sharing
 pub mod PartnerLaws
 pub mod MemberLaws
+pub mod NeedLaws

@@ -1,6 +1,6 @@
 //! Laws of nodes and of the levels of a tree. The functions do nothing: their contracts are the laws.
 
-ghost use Rattle.std.specs.Prelude.{◌≡◌, ◌⊎◌, ◌↔◌, ◌++◌, ℕ, List, map, Some, None, true, false, slice_get};
+ghost use Rattle.std.specs.Prelude.{◌≡◌, ◌⊎◌, ◌↔◌, ◌++◌, [], ℕ, List, map, Some, None, true, false, slice_get};
 ghost use Rattle.std.specs.Option.{option_map};
 ghost use Rattle.std.specs.List.{AllByRecursion};
 ghost use Rattle.must_base.specs.Listing.{Has};
@@ -16,6 +16,7 @@ ghost use Rattle.must_entry.specs.declared.entry.Entry.{Entry};
 ghost use Rattle.must_entry.specs.declared.entry.Entry.TheVariants.{Message, Wave};
 ghost use Rattle.must_entry.specs.declared.range.RankRange.{RankRange};
 ghost use Rattle.must_entry.specs.declared.batch.Batch.{Batch};
+ghost use Rattle.must_entry.specs.Entries as entry;
 ghost use Rattle.must_entry.specs.Entries.{messages, calls, entries_of};
 ghost use Rattle.must_entry.specs.Lawful.{IsLawful};
 ghost use Rattle.must_node.specs.declared.fact.Fact.{Fact};
@@ -24,7 +25,7 @@ ghost use Rattle.must_node.specs.Facts.{facts_of};
 ghost use Rattle.must_node.specs.Inner.{within, inner, outer};
 ghost use Rattle.must_node.specs.Nodes.{all_up};
 ghost use Rattle.must_node.specs.Levels.{Part, all_given, all_left, IsRowOfOne, all_facts, AreApart, IsInside, AreLevels, IsRowOfLevels, facts_of_levels};
-ghost use Rattle.must_node.specs.Partners.{meeting_of, place_of, past, place_or, wave_places};
+ghost use Rattle.must_node.specs.Partners.{meeting_of, needs, place_of, past, place_or, wave_places};
 ghost use Rattle.must_node.specs.PartnerLaws.{numbered};
 ghost use Rattle.must_node.specs.MemberLaws.{told};
 ghost use Rattle.must_node.specs.TreeLaws.{Child, parts_of, AreChildren};
@@ -89,4 +90,11 @@ pub fn partners_are_matches()
 /// Of facts in any order: the places of a wave are those of its calls, and where a member has none, one past its last call.
 pub fn waves_are_told()
     ensures { (entries : List Entry) (facts : List Fact) → Rearranges facts (facts_of entries) → waves.Orderly (calls entries) → (x : WaveItem) → wave_places facts (Some (told x)) ≡ map (λ rank. place_or (past facts rank) (option_map (λ (z : WaveItem). z.place) (waves.call_of (calls entries) x.name x.number rank))) x.name.members }
+{}
+
+/// The needs that facts tell are those of the entries, in their order, and a node below the root has none. So whatever nodes
+/// there are, the needs of a rank's calls come from the root, in the order of its calls.
+pub fn needs_come_from_the_root()
+    ensures told { (entries : List Entry) → needs (facts_of entries) ≡ entry.needs entries }
+    ensures none { (range : RankRange) (entries : List Entry) → needs (facts_of (inner false range entries)) ≡ [] }
 {}
