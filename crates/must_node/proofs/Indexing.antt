@@ -1,17 +1,14 @@
 -- One fact more in an index.
-use Rattle.std.proofs.Common.{◌≡◌, ℕ, ◌+◌, Bool, true, false, cond, ◌&&◌, List, [], ◌∷◌, ◌++◌, length, Option, Some, None, Ordering, Less, Equal, Greater, refl, sym, ap, subst, ◌∙◌, inl, inr}
+use Rattle.std.proofs.Common.{◌≡◌, ℕ, ◌+◌, Bool, true, false, cond, ◌&&◌, List, [], ◌∷◌, ◌++◌, length, Option, Some, None, Ordering, refl, sym, ap, subst, ◌∙◌, inl, inr}
 use Rattle.std.specs.Prelude.{filter, find, ◌==◌}
-use Rattle.std.specs.List.{flat_map}
 use Rattle.std.specs.Option.{option_map}
-use Rattle.std.specs.Cmp.{IsTotalOrder}
 use Rattle.std.specs.Ordering.{nat_cmp, int_cmp, ordering_then, is_eq}
 use Rattle.std.specs.FinMap.{nat_cmp-IsAntisymmetric, int_cmp-IsAntisymmetric}
 use Rattle.std.specs.BTreeMap as tree
-use Rattle.std.proofs.lemmas.Cmp.{nat_cmp_total}
 use Rattle.std.proofs.lemmas.Bool.{cases_Bool, eqb-true, eqb-false}
 use Rattle.std.proofs.lemmas.List.{append-nil, length_push}
 use Rattle.must_group.specs.NameOrder.{name_same}
-use Rattle.must_group.specs.Names.{Name, name_cmp}
+use Rattle.must_group.specs.Names.{name_cmp}
 use Rattle.must_p2p.specs.ClassLaws.{then_parts, eq_equal}
 use Rattle.must_p2p.specs.Items.{same_side}
 use Rattle.must_p2p.specs.declared.side.Side.TheVariants as side
@@ -24,7 +21,7 @@ use Rattle.must_node.specs.declared.keys.Meeting.{Meeting}
 use Rattle.must_node.specs.declared.keys.Member.{Member}
 use Rattle.must_node.specs.declared.index.Index.{Index}
 use Rattle.must_node.specs.ListLaws.{flat_push, kept_push, left_push}
-use Rattle.must_node.specs.Partners.{item_of, items, call_of, calls, need_of, needs, needs_of_rank, spot_of, spot_cmp, meeting_of, meeting_cmp, item_at, place_of, call_spot, call_at, member_of, member_cmp, member_call}
+use Rattle.must_node.specs.Partners.{item_of, items, call_of, calls, need_of, needs, spot_of, spot_cmp, meeting_of, meeting_cmp, call_spot, member_of, member_cmp}
 use Rattle.must_node.specs.Indexed.{first_of, Keeps, KeepsIf, count_in, Stands}
 
 -- ---- keys

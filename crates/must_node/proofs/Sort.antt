@@ -1,8 +1,7 @@
 -- One entry more, inner or not.
-use Rattle.std.proofs.Common.{◌≡◌, Bool, true, false, cond, not, List, [], ◌∷◌, ◌++◌, refl, sym, ap, subst, ◌∙◌, append_assoc}
+use Rattle.std.proofs.Common.{◌≡◌, Bool, true, false, cond, List, [], ◌∷◌, ◌++◌, sym, ap, subst, ◌∙◌, append_assoc}
 use Rattle.std.specs.Prelude.{filter, Result, Ok, Err, OnOk}
 use Rattle.std.proofs.lemmas.List.Elements.{filter-append}
-use Rattle.must_p2p.specs.declared.item.MsgItem.{MsgItem}
 use Rattle.must_p2p.specs.Items.{Orderly}
 use Rattle.must_p2p.specs.ClassLaws.{orderly_front}
 use Rattle.must_coll.specs.Waves as waves

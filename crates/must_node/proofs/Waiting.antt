@@ -1,10 +1,9 @@
 -- The rows of blocked calls.
-use Rattle.std.proofs.Common.{◌≡◌, ℕ, Bool, true, false, List, [], ◌∷◌, refl, sym, ap, subst, ◌∙◌, inl, inr}
+use Rattle.std.proofs.Common.{◌≡◌, ℕ, Bool, true, false, List, refl, sym, subst, inl, inr}
 use Rattle.std.specs.Prelude.{◌⊎◌, ◌↔◌, Result, Ok, Err, OnOk}
 use Rattle.std.specs.Cmp.{IsTotalOrder}
-use Rattle.std.specs.Ordering.{nat_cmp}
 use Rattle.std.proofs.lemmas.Cmp.{nat_cmp_total, on_total, then_total}
-use Rattle.must_base.specs.Listing.{Has, Lists}
+use Rattle.must_base.specs.Listing.{Has}
 use Rattle.must_base.specs.ListingLaws.{lists_one}
 use Rattle.must_call.specs.declared.place.Place.{Place}
 use Rattle.must_find.specs.Adds.{Adds}

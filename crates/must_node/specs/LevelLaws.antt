@@ -1,15 +1,15 @@
 -- The rows and facts of all entries are those that the nodes of a level close with, and those of what they hand up.
-use Rattle.std.proofs.Common.{◌≡◌, ℕ, Bool, true, false, cond, ◌||◌, ◌&&◌, not, List, [], ◌∷◌, ◌++◌, refl, sym, ap, subst, ◌∙◌, inl, inr, append_assoc}
+use Rattle.std.proofs.Common.{◌≡◌, Bool, true, false, ◌||◌, ◌&&◌, not, List, [], ◌∷◌, ◌++◌, refl, sym, ap, subst, ◌∙◌, inl, inr, append_assoc}
 use Rattle.std.specs.Prelude.{filter, ◌⊎◌, ◌↔◌}
 use Rattle.std.specs.List.{AllByRecursion, flat_map}
 use Rattle.std.proofs.lemmas.List.Elements.{filter-append}
 use Rattle.std.proofs.lemmas.List.{append-nil}
 use Rattle.must_base.specs.Listing.{Has}
 use Rattle.must_find.specs.declared.finding.Finding.{Finding}
-use Rattle.must_find.specs.Rearranged.{Rearranges, same, back, through, joined, ahead, from_equal, still_has, flat_mapped, split}
+use Rattle.must_find.specs.Rearranged.{Rearranges, same, through, ahead, from_equal, still_has, flat_mapped, split}
 use Rattle.must_group.specs.Names.{Name}
 use Rattle.must_p2p.specs.declared.item.MsgItem.{MsgItem}
-use Rattle.must_p2p.specs.Items.{Class, class_of, number}
+use Rattle.must_p2p.specs.Items.{Class, number}
 use Rattle.must_p2p.specs.Matching.{IsMessageRow}
 use Rattle.must_p2p.specs.SetLaws.{KeepsClasses, number_alike, number_cut, message_row_alike, has_filter, all_filter, rows_cut}
 use Rattle.must_coll.specs.declared.item.WaveItem.{WaveItem}

@@ -1,6 +1,6 @@
 -- The nodes of one level of a tree, and of several levels: what is inner to each node, and what all hand up (docs/NODES.md,
 -- "Trees").
-use Rattle.std.specs.Prelude.{◌≡◌, ◌⊎◌, ◌++◌, ℕ, true, false, List, [], ◌∷◌}
+use Rattle.std.specs.Prelude.{◌≡◌, ◌⊎◌, ℕ, true, false, List, [], ◌∷◌}
 use Rattle.std.specs.List.{AllByRecursion, flat_map}
 use Rattle.must_find.specs.declared.finding.Finding.{Finding}
 use Rattle.must_find.specs.Rearranged.{Rearranges}

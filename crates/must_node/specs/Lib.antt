@@ -15,3 +15,7 @@ pub mod Partners
 pub mod RunNeeds
 pub mod Indexed
 pub mod Waits
+pub mod Sharing
+pub mod PartnerLaws
+pub mod MemberLaws
+pub mod NeedLaws

@@ -1,6 +1,6 @@
 -- What lawful batches give comes in order, and so does each part of it that a node settles or hands up.
 use Rattle.std.proofs.Common.{◌≡◌, ℕ, Bool, true, false, cond, not, List, [], ◌∷◌, ◌++◌, refl, sym, ap, subst, ◌∙◌, inl, inr}
-use Rattle.std.specs.Prelude.{filter, slice_get, ◌==◌, ◌||◌, ◌&&◌, Option, Some, None}
+use Rattle.std.specs.Prelude.{filter, slice_get, ◌==◌, ◌||◌, Some, None}
 use Rattle.std.specs.Ordering.{is_eq}
 use Rattle.std.proofs.lemmas.Bool.{and_parts, cases_Bool}
 use Rattle.std.proofs.lemmas.List.Elements.{filter-append}

@@ -1,5 +1,5 @@
 -- Which calls stand for one another, told by facts: the partner of a message, and the calls of a wave (docs/NODES.md, "Needs").
-use Rattle.std.specs.Prelude.{ℕ, Bool, true, false, ◌&&◌, ◌==◌, List, [], ◌∷◌, map, filter, find, length, Option, Some, None}
+use Rattle.std.specs.Prelude.{ℕ, true, ◌&&◌, ◌==◌, List, [], ◌∷◌, map, filter, find, length, Option, Some, None}
 use Rattle.std.specs.List.{flat_map}
 use Rattle.std.specs.Option.{option_map}
 use Rattle.std.specs.declared.cmp.Ordering.{Ordering}

@@ -1,10 +1,9 @@
 -- Nodes of ranges without a common rank are apart, and the nodes of all levels of a tree settle what one root node settles.
-use Rattle.std.proofs.Common.{◌≡◌, ℕ, Bool, true, false, cond, ◌&&◌, ◌||◌, not, List, [], ◌∷◌, ◌++◌, refl, sym, ap, subst, ◌∙◌, inl, inr, append_assoc}
-use Rattle.std.specs.Prelude.{filter, slice_get, Some, ◌⊎◌, ◌↔◌, zero, suc}
-use Rattle.std.specs.List.{AllByRecursion, flat_map}
+use Rattle.std.proofs.Common.{◌≡◌, ℕ, Bool, true, false, not, List, [], ◌∷◌, ◌++◌, refl, sym, ap, subst, ◌∙◌, inl, inr, append_assoc}
+use Rattle.std.specs.Prelude.{slice_get, Some, ◌⊎◌, ◌↔◌, zero, suc}
+use Rattle.std.specs.List.{AllByRecursion}
 use Rattle.std.proofs.lemmas.List.Elements.{filter-append}
 use Rattle.std.proofs.lemmas.Bool.{and_parts, and_from, cases_Bool}
-use Rattle.must_call.specs.declared.place.Place.{Place}
 use Rattle.must_base.specs.Listing.{Has}
 use Rattle.must_base.specs.ListingLaws.{all_has}
 use Rattle.must_find.specs.declared.finding.Finding.{Finding}
@@ -28,7 +27,7 @@ use Rattle.must_node.specs.Inner.{all_in, within, is_inner, inner, outer}
 use Rattle.must_node.specs.EntryRows.{IsRow}
 use Rattle.must_node.specs.Facts.{facts_of}
 use Rattle.must_node.specs.Levels.{Part, all_given, all_left, IsRowOfOne, all_facts, NoneWithin, AreApart, IsInside, AreLevels, IsRowOfLevels, facts_of_levels}
-use Rattle.must_node.specs.ListLaws.{all_join, filter_in, filter_swap, filter_flat}
+use Rattle.must_node.specs.ListLaws.{all_join, filter_in, filter_swap}
 use Rattle.must_node.specs.OrderLaws.{calls_outer}
 use Rattle.must_node.specs.LevelLaws.{row_alike, facts_alike, inner_keeps, level_rows, level_facts, left_there, none_later, all_none}
 

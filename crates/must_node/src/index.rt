@@ -1,22 +1,21 @@
 //! The messages and collective calls of a run, by what they are looked up by.
 
-ghost use Rattle.std.specs.Prelude.{◌≡◌, ◌+◌, ◌++◌, ◌∷◌, [], ℕ, List, map, OnOk, IfOk, false};
+ghost use Rattle.std.specs.Prelude.{◌≡◌, ◌+◌, ◌++◌, ◌∷◌, [], ℕ, Bool, List, Some, map, OnOk, IfOk, IfSome, false};
 ghost use Rattle.std.specs.Ordering.{is_eq, nat_cmp};
 ghost use Rattle.std.specs.BTreeMap as tree;
 ghost use Rattle.must_p2p.specs.declared.side.Side.TheVariants as side;
 ghost use Rattle.must_p2p.specs.Items.{same_side};
 ghost use Rattle.must_node.specs.declared.fact.Fact.{Fact};
 ghost use Rattle.must_node.specs.Partners.{item_of, spot_of, spot_cmp, meeting_of, meeting_cmp, call_spot, member_of, member_cmp, past, place_or, partner_place, member_place, item_at, op_places, call_at, wave_places};
-ghost use Rattle.must_node.specs.RunNeeds.{want_places, way_places, call_needs};
+ghost use Rattle.must_node.specs.RunNeeds.{want_places, way_places};
 ghost use Rattle.must_node.specs.Indexed.{Keeps, KeepsIf, count_in, listed, Stands};
 
 use crate::fact::Fact;
 use crate::keys::{Call, Item, Meeting, Member, Spot};
 use must_base::NoMemory;
 use must_call::Place;
-use must_entry::{Want, Way};
+use must_entry::Want;
 use must_p2p::Side;
-use must_wait::{Needs, Places};
 use std::alloc::Global;
 use std::collections::BTreeMap;
 
@@ -248,6 +247,33 @@ impl Index {
         Ok(())
     }
 
+    /// The calls of all members in the wave of a call.
+    pub(crate) fn wave_places(&self, alloc: Global, call: &Call) -> Result<Vec<Place>, NoMemory>
+        ensures { (facts : List Fact) → Stands self.now facts → IfOk result (λ places. places.items ≡ wave_places facts (Some call.now)) }
+    {
+        let ranks = call.name.members().ranks();
+        let mut places = Vec::with_capacity(alloc, ranks.len())?;
+        self.push_members(call, ranks, &mut places)?;
+        Ok(places)
+    }
+
+    /// The collective call of an alternative that waits for one wave alone.
+    pub(crate) fn lone_wave(&self, way: &[Want]) -> Option<&Call>
+        ensures { IfSome result (λ call. (facts : List Fact) (strict : Bool) → Stands self.now facts → way_places strict facts way.now ≡ wave_places facts (Some call.now)) }
+    {
+        match way {
+            [Want::Wave { place }] => {
+                let spot = Spot {
+                    rank: place.rank,
+                    call: place.call,
+                    part: 0,
+                };
+                self.calls.get(&spot)
+            }
+            _ => None,
+        }
+    }
+
     /// Appends what a message waits for.
     fn push_op(&self, spot: Spot, out: &mut Vec<Place>) -> Result<(), NoMemory>
         ensures { (facts : List Fact) → Stands self.now facts → OnOk result (out.new.items ≡ out.old.items ++ op_places facts (item_at facts spot)) }
@@ -303,7 +329,12 @@ impl Index {
     }
 
     /// The places of an alternative.
-    fn way_places(&self, alloc: Global, strict: bool, way: &[Want]) -> Result<Vec<Place>, NoMemory>
+    pub(crate) fn way_places(
+        &self,
+        alloc: Global,
+        strict: bool,
+        way: &[Want],
+    ) -> Result<Vec<Place>, NoMemory>
         ensures { (facts : List Fact) → Stands self.now facts → IfOk result (λ places. places.items ≡ way_places strict facts way.now) }
     {
         let mut places = Vec::new(alloc);
@@ -311,22 +342,5 @@ impl Index {
             self.push_want(strict, want, &mut places)?;
         }
         Ok(places)
-    }
-
-    /// The needs of a call.
-    pub(crate) fn call_needs(
-        &self,
-        alloc: Global,
-        strict: bool,
-        ways: &[Way],
-    ) -> Result<Needs, NoMemory>
-        ensures { (facts : List Fact) → Stands self.now facts → IfOk result (λ needs. needs ≡ call_needs strict facts ways.now) }
-    {
-        let mut needs = Vec::with_capacity(alloc, ways.len())?;
-        for way in ways {
-            let places = self.way_places(alloc, strict, way.items())?;
-            needs.push(Places::from_vec(places))?;
-        }
-        Ok(Needs::from_vec(needs))
     }
 }

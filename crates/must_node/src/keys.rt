@@ -1,6 +1,7 @@
 //! Messages and collective calls of facts, and the keys by which they are found.
 
 ghost use Rattle.std.specs.Prelude.{◌≡◌, IfOk};
+ghost use Rattle.must_node.specs.Sharing.{wave_of};
 ghost use Rattle.must_node.specs.Partners.{spot_of, meeting_of, call_spot, member_of};
 
 use must_base::NoMemory;
@@ -32,6 +33,13 @@ pub(crate) struct Meeting {
 pub(crate) struct Member {
     pub number: u32,
     pub rank: u32,
+    pub name: CommName,
+}
+
+/// A wave: a communicator, and the number of its calls there.
+#[derive(Drop, PartialEq, Eq, PartialOrd, Ord)]
+pub(crate) struct WaveKey {
+    pub number: u32,
     pub name: CommName,
 }
 
@@ -92,6 +100,16 @@ impl Call {
             call: self.place.call,
             part: 0,
         }
+    }
+
+    /// Its wave.
+    pub(crate) fn wave(&self) -> Result<WaveKey, NoMemory>
+        ensures { IfOk result (λ wave. wave ≡ wave_of self.now) }
+    {
+        Ok(WaveKey {
+            number: self.number,
+            name: self.name.copy()?,
+        })
     }
 
     /// The member that made it, in its wave.

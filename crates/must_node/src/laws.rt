@@ -1,25 +1,33 @@
 //! Laws of nodes and of the levels of a tree. The functions do nothing: their contracts are the laws.
 
-ghost use Rattle.std.specs.Prelude.{◌≡◌, ◌⊎◌, ◌↔◌, ◌++◌, ℕ, List, Some, true, false, slice_get};
+ghost use Rattle.std.specs.Prelude.{◌≡◌, ◌⊎◌, ◌↔◌, ◌++◌, [], ℕ, List, map, Some, None, true, false, slice_get};
+ghost use Rattle.std.specs.Option.{option_map};
 ghost use Rattle.std.specs.List.{AllByRecursion};
 ghost use Rattle.must_base.specs.Listing.{Has};
 ghost use Rattle.must_find.specs.declared.finding.Finding.{Finding};
 ghost use Rattle.must_find.specs.Rearranged.{Rearranges};
 ghost use Rattle.must_p2p.specs.declared.item.MsgItem.{MsgItem};
-ghost use Rattle.must_p2p.specs.Items.{class_of};
+ghost use Rattle.must_p2p.specs.declared.side.Side.TheVariants as side;
+ghost use Rattle.must_p2p.specs.Items.{class_of, Orderly};
+ghost use Rattle.must_p2p.specs.Matching.{IsMatch, IsLone};
 ghost use Rattle.must_coll.specs.declared.item.WaveItem.{WaveItem};
 ghost use Rattle.must_coll.specs.Waves as waves;
 ghost use Rattle.must_entry.specs.declared.entry.Entry.{Entry};
 ghost use Rattle.must_entry.specs.declared.entry.Entry.TheVariants.{Message, Wave};
 ghost use Rattle.must_entry.specs.declared.range.RankRange.{RankRange};
 ghost use Rattle.must_entry.specs.declared.batch.Batch.{Batch};
-ghost use Rattle.must_entry.specs.Entries.{calls, entries_of};
+ghost use Rattle.must_entry.specs.Entries as entry;
+ghost use Rattle.must_entry.specs.Entries.{messages, calls, entries_of};
 ghost use Rattle.must_entry.specs.Lawful.{IsLawful};
+ghost use Rattle.must_node.specs.declared.fact.Fact.{Fact};
 ghost use Rattle.must_node.specs.EntryRows.{IsRow};
 ghost use Rattle.must_node.specs.Facts.{facts_of};
 ghost use Rattle.must_node.specs.Inner.{within, inner, outer};
 ghost use Rattle.must_node.specs.Nodes.{all_up};
 ghost use Rattle.must_node.specs.Levels.{Part, all_given, all_left, IsRowOfOne, all_facts, AreApart, IsInside, AreLevels, IsRowOfLevels, facts_of_levels};
+ghost use Rattle.must_node.specs.Partners.{meeting_of, needs, place_of, past, place_or, wave_places};
+ghost use Rattle.must_node.specs.PartnerLaws.{numbered};
+ghost use Rattle.must_node.specs.MemberLaws.{told};
 ghost use Rattle.must_node.specs.TreeLaws.{Child, parts_of, AreChildren};
 
 /// Rows and facts of entries don't depend on their order.
@@ -69,4 +77,24 @@ pub fn node_settles()
 pub fn levels_settle()
     ensures rows { (given : List Entry) (levels : List (List Part)) (left : List Entry) (f : Finding) → waves.Orderly (calls given) → AreLevels given levels left → IsRow given f ↔ (IsRowOfLevels levels f ⊎ IsRow left f) }
     ensures facts { (given : List Entry) (levels : List (List Part)) (left : List Entry) → AreLevels given levels left → Rearranges (facts_of given) (facts_of_levels levels ++ facts_of left) }
+{}
+
+/// Of facts in any order: the partner of a send or a receive is the one of its match, and there is none where it has no match.
+pub fn partners_are_matches()
+    ensures receive { (entries : List Entry) (facts : List Fact) → Rearranges facts (facts_of entries) → (s r : MsgItem) → Orderly (messages entries) → IsMatch (messages entries) s r → place_of side.Receive facts (meeting_of (numbered (messages entries) s)) ≡ Some r.place }
+    ensures send { (entries : List Entry) (facts : List Fact) → Rearranges facts (facts_of entries) → (s r : MsgItem) → Orderly (messages entries) → IsMatch (messages entries) s r → place_of side.Send facts (meeting_of (numbered (messages entries) r)) ≡ Some s.place }
+    ensures no_receive { (entries : List Entry) (facts : List Fact) → Rearranges facts (facts_of entries) → (s : MsgItem) → Has (messages entries) s → s.side ≡ side.Send → IsLone (messages entries) s → place_of side.Receive facts (meeting_of (numbered (messages entries) s)) ≡ None }
+    ensures no_send { (entries : List Entry) (facts : List Fact) → Rearranges facts (facts_of entries) → (r : MsgItem) → Has (messages entries) r → r.side ≡ side.Receive → IsLone (messages entries) r → place_of side.Send facts (meeting_of (numbered (messages entries) r)) ≡ None }
+{}
+
+/// Of facts in any order: the places of a wave are those of its calls, and where a member has none, one past its last call.
+pub fn waves_are_told()
+    ensures { (entries : List Entry) (facts : List Fact) → Rearranges facts (facts_of entries) → waves.Orderly (calls entries) → (x : WaveItem) → wave_places facts (Some (told x)) ≡ map (λ rank. place_or (past facts rank) (option_map (λ (z : WaveItem). z.place) (waves.call_of (calls entries) x.name x.number rank))) x.name.members }
+{}
+
+/// The needs that facts tell are those of the entries, in their order, and a node below the root has none. So whatever nodes
+/// there are, the needs of a rank's calls come from the root, in the order of its calls.
+pub fn needs_come_from_the_root()
+    ensures told { (entries : List Entry) → needs (facts_of entries) ≡ entry.needs entries }
+    ensures none { (range : RankRange) (entries : List Entry) → needs (facts_of (inner false range entries)) ≡ [] }
 {}

@@ -1,12 +1,14 @@
 //! What the calls of a run wait for.
 
-ghost use Rattle.std.specs.Prelude.{◌≡◌, ◌++◌, ◌∷◌, [], ◌<◌, List, OnOk, IfOk};
+ghost use Rattle.std.specs.Prelude.{◌≡◌, ◌++◌, ◌∷◌, [], ℕ, List, OnOk, IfOk};
 ghost use Rattle.must_node.specs.declared.fact.Fact.{Fact};
 ghost use Rattle.must_node.specs.RunNeeds.{ranks_from, run_needs};
 ghost use Rattle.must_node.specs.Indexed.{Stands};
+ghost use Rattle.must_node.specs.Sharing.{AreShared};
 
 use crate::fact::Fact;
 use crate::index::Index;
+use crate::sharing::Sharing;
 use must_base::NoMemory;
 use must_wait::Rows;
 use std::alloc::Global;
@@ -18,23 +20,22 @@ const MOST_CALLS: u32 = 2_147_483_648;
 fn push_fact(
     alloc: Global,
     index: &Index,
-    size: u32,
     strict: bool,
     fact: &Fact,
-    rows: &mut Rows,
+    sharing: &mut Sharing,
 ) -> Result<(), NoMemory>
-    ensures { (all some : List Fact) → Stands index.now all → rows.old ≡ ranks_from strict all some 0 size → OnOk result (rows.new ≡ ranks_from strict all (some ++ fact.now ∷ []) 0 size) }
+    ensures shared { (all : List Fact) → Stands index.now all → AreShared sharing.old all → OnOk result (AreShared sharing.new all) }
+    ensures needs { (all some : List Fact) (size : ℕ) → Stands index.now all → AreShared sharing.old all → sharing.old.rows.needs ≡ ranks_from strict all some 0 size → OnOk result (sharing.new.rows.needs ≡ ranks_from strict all (some ++ fact.now ∷ []) 0 size) }
 {
     match fact {
         Fact::Need { place, ways } => {
-            if place.rank >= rows.ranks() {
+            if place.rank >= sharing.rows.ranks() {
                 return Ok(());
             }
-            if rows.needs(place.rank, MOST_CALLS - 1).is_some() {
+            if sharing.rows.needs(place.rank, MOST_CALLS - 1).is_some() {
                 return Err(NoMemory);
             }
-            let needs = index.call_needs(alloc, strict, ways.items())?;
-            rows.push(place.rank, needs)?;
+            sharing.push_call(alloc, index, strict, place.rank, ways.items())?;
             Ok(())
         }
         Fact::Message { .. } => Ok(()),
@@ -52,9 +53,9 @@ pub(crate) fn run_rows(
     ensures { IfOk result (λ rows. rows ≡ run_needs strict facts.now size) }
 {
     let index = Index::of(alloc, facts)?;
-    let mut rows = Rows::new(alloc, size)?;
+    let mut sharing = Sharing::new(alloc, size)?;
     for fact in facts {
-        push_fact(alloc, &index, size, strict, fact, &mut rows)?;
+        push_fact(alloc, &index, strict, fact, &mut sharing)?;
     }
-    Ok(rows)
+    Ok(Rows::from_shared(sharing.rows))
 }

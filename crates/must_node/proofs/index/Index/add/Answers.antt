@@ -1,4 +1,4 @@
-use Rattle.std.proofs.Common.{◌≡◌, List, [], ◌∷◌, ◌++◌, refl, sym, ap, subst, ◌∙◌}
+use Rattle.std.proofs.Common.{◌≡◌, [], ◌∷◌, ◌++◌, refl, sym, ap, subst, ◌∙◌}
 use Rattle.must_group.specs.Names.{Name}
 use Rattle.must_node.specs.declared.fact.Fact.{Fact}
 use Rattle.must_node.specs.declared.fact.Fact.TheVariants.{Wave}
