@@ -13,7 +13,7 @@ use Rattle.must_rules.specs.Parts.{Part, numbered}
 use Rattle.must_rules.specs.Overlaps.{overlapping, shared_parts, overlap_within, overlap_between}
 use Rattle.must_parts.specs.Rows.{HaveNumbers, IsOfRule, OverlapRows}
 
-no_such : (ps : List Part) (n : ℕ) → HaveNumbers ps → numbered (suc (suc n)) ps ≡ None
+pub no_such : (ps : List Part) (n : ℕ) → HaveNumbers ps → numbered (suc (suc n)) ps ≡ None
 no_such [] n h = refl
 no_such (p ∷ ps) n h =
     let low = h.0 in
@@ -47,6 +47,12 @@ two_parts at rule answers none old mid new a b = λ f. (there f, back f)
     back f (inl h) = (b f).1 (inl ((a f).1 (inl h)))
     back f (inr h) = by_part f f.part refl h
 
+-- the same with the answers told
+pub told_two : (at : Place) (rule : Rule) (answers : ℕ → Option Answer) → ((n : ℕ) → answers (suc (suc n)) ≡ None) → (old mid new : List Finding) (a b : Option Answer) → a ≡ answers 0 → b ≡ answers 1
+    → Adds old mid (IsAnswer at.rank at.call rule 0 a) → Adds mid new (IsAnswer at.rank at.call rule 1 b) → Adds old new (IsOfRule at rule answers)
+told_two at rule answers none old mid new a b ea eb p q =
+    two_parts at rule answers none old mid new (subst (λ (o : Option Answer). Adds old mid (IsAnswer at.rank at.call rule 0 o)) ea p) (subst (λ (o : Option Answer). Adds mid new (IsAnswer at.rank at.call rule 1 o)) eb q)
+
 no_third : (answer : Option Answer) (n : ℕ) → at_part 1 answer (suc (suc n)) ≡ None
 no_third answer n = let other : ((suc (suc n)) == 1) ≡ false = grind arith in ap (λ (b : Bool). cond b answer None) other
 
@@ -66,7 +72,7 @@ at_one at rule answer old new a = λ f. (there f, back f)
     back f (inl h) = (a f).1 (inl h)
     back f (inr h) = by_part f f.part refl h
 
-both_rules : (old mid new : List Finding) (P Q : Finding → Type 0) → Adds old mid P → Adds mid new Q → Adds old new (λ f. P f ⊎ Q f)
+pub both_rules : (old mid new : List Finding) (P Q : Finding → Type 0) → Adds old mid P → Adds mid new Q → Adds old new (λ f. P f ⊎ Q f)
 both_rules old mid new P Q a b = λ f. (there f, back f)
   where
     there : (f : Finding) → Has new f → Has old f ⊎ (P f ⊎ Q f)

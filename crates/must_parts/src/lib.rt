@@ -9,20 +9,32 @@
 //! blocks of a list by member are joined by halves.
 #![tactic(auto)]
 
+mod begin;
 mod blocks;
+mod clashes;
+mod fault;
+mod finish;
 mod lay;
 mod overlaps;
+#[cfg(test)]
+mod pending_tests;
 mod placed;
 mod roles;
 mod scope;
+mod take;
 #[cfg(test)]
 mod tests;
 mod told;
 mod weigh;
 
+pub use begin::begin_all;
 pub use blocks::Block;
+pub use clashes::add_clashes;
+pub use fault::BuffersFault;
+pub use finish::finish_call;
 pub use lay::Laid;
 pub use overlaps::add_overlaps;
 pub use placed::{Placed, numbered, place_parts};
+pub use take::take_plain;
 pub use told::{Told, told_parts};
 pub use weigh::weight_of;
