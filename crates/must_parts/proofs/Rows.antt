@@ -91,3 +91,15 @@ overlap_rows at ps r0 r1 r2 r3 a b t low ea eb et p q s =
     both_rules r0 r2 r3 (IsOfRule at T1 (overlap_within ps)) (IsOfRule at T2 (overlap_between ps))
     (two_parts at T1 (overlap_within ps) (λ n. ap overlapping (no_such ps n low)) r0 r1 r2 (subst (λ (o : Option Answer). Adds r0 r1 (IsAnswer at.rank at.call T1 0 o)) ea p) (subst (λ (o : Option Answer). Adds r1 r2 (IsAnswer at.rank at.call T1 1 o)) eb q))
     (at_one at T2 (shared_parts (numbered 0 ps) (numbered 1 ps)) r2 r3 (subst (λ (o : Option Answer). Adds r2 r3 (IsAnswer at.rank at.call T2 1 o)) et s))
+
+-- beside a rule that finds nothing
+pub with_none : (at : Place) (rule : Rule) (answers : ℕ → Option Answer) (P : Finding → Type 0) (old new : List Finding) → ((n : ℕ) → answers n ≡ None) → Adds old new P → Adds old new (λ f. P f ⊎ IsOfRule at rule answers f)
+with_none at rule answers P old new none a = λ f. (there f, back f)
+  where
+    there : (f : Finding) → Has new f → Has old f ⊎ (P f ⊎ IsOfRule at rule answers f)
+    there f h = elim ((a f).0 h) [ inl o ↦ inl o | inr p ↦ inr (inl p) ]
+
+    back : (f : Finding) → Has old f ⊎ (P f ⊎ IsOfRule at rule answers f) → Has new f
+    back f (inl h) = (a f).1 (inl h)
+    back f (inr (inl p)) = (a f).1 (inr p)
+    back f (inr (inr q)) = absurd (none_is_not (answers f.part) (f.see, f.value) (none f.part) q.gives)

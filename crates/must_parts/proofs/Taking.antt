@@ -1,5 +1,5 @@
 -- What a call does to what is pending.
-use Rattle.std.proofs.Common.{◌≡◌, ℕ, zero, suc, ◌+◌, ◌<◌, Bool, true, false, cond, ◌&&◌, List, [], ◌∷◌, ◌++◌, map, length, reverse, Option, Some, None, refl, sym, ap, subst, ◌∙◌, arith, append_assoc, append-nil}
+use Rattle.std.proofs.Common.{◌≡◌, ℕ, zero, suc, ◌+◌, ◌<◌, Bool, true, false, cond, ◌&&◌, List, [], ◌∷◌, ◌++◌, map, length, take, reverse, Option, Some, None, refl, sym, ap, subst, ◌∙◌, arith, append_assoc, append-nil}
 use Rattle.std.specs.Prelude.{nat_lt, if◌then◌else◌, filter_map, sum_by, is_some, slice_get}
 use Rattle.std.specs.List.{AllByRecursion, cons_option}
 use Rattle.std.proofs.lemmas.List.{reverse-append, reverse-reverse, length-reverse}
@@ -10,6 +10,7 @@ use Rattle.must_call.specs.declared.field.Field.{Field}
 use Rattle.must_call.specs.declared.field.Field.TheVariants as field
 use Rattle.must_call.specs.declared.body.Body.{Body}
 use Rattle.must_call.specs.declared.body.Body.TheVariants.{Frame, Point, Finish, Derive, Object, Collective, Persist, Started}
+use Rattle.must_call.specs.declared.persist.Persist.TheVariants.{SendInit, SsendInit, RecvInit, Start, Startall}
 use Rattle.must_call.specs.declared.call.Call.{Call}
 use Rattle.must_call.specs.Values.{Value, Typed}
 use Rattle.must_call.specs.Bodies.{inputs_of}
@@ -26,6 +27,7 @@ use Rattle.must_rules.specs.Significant.{comm_of}
 use Rattle.must_rules.specs.Breaches.{part_of, part_in}
 use Rattle.must_rules.specs.UsableParts.{is_usable}
 use Rattle.must_rules.specs.Making.{is_persistent_kind, persists, made_by, started_of}
+use Rattle.must_rules.specs.Starts.{is_start_kind}
 use Rattle.must_rules.specs.Parts.{Part, part_at, part_told, with_both, datatype_of, parts_of, numbered, part_weight}
 use Rattle.must_rules.specs.PendingOperations.{Operation, parts_behind, request_in, begun_request, begun_with, started, started_from, started_below, started_at, begun, left_by, pending_by, pending, clash_of, pending_clash, operations_weight, most_pending, pending_weight, pending_limit_at}
 use Rattle.must_parts.specs.Holding.{Holds, AreHeld}
@@ -62,7 +64,7 @@ low_parts r calls call = low_fields (facts_of r calls) (type_of (clear_behind r)
 
 -- ---- calls that start nothing
 
-starts_none : (b : Body) → is_persistent_kind b ≡ false → started_of b ≡ []
+pub starts_none : (b : Body) → is_persistent_kind b ≡ false → started_of b ≡ []
 starts_none (Frame x) e = refl
 starts_none (Point x) e = refl
 starts_none (Finish x) e = refl
@@ -105,13 +107,13 @@ held_weight (h ∷ hs) (o ∷ ops) m =
     sum_by-cons (λ (k : Held). k.weight) h hs ∙ ap (λ n. n + weight_of hs) m.0.weight_is ∙ ap (λ n. part_weight o.part + n) (held_weight hs ops m.1) ∙ sym (sum_by-cons (λ (k : Operation). part_weight k.part) o ops)
 
 -- the weights at a call that starts nothing
-weight_plain : (r : Rank) (calls : List Call) (call : Call) (hs : List Held) (own : ℕ) → is_persistent_kind call.body ≡ false → AreHeld hs (pending r calls) → own ≡ sum_by part_weight (parts_behind r calls call) → weight_of hs + own ≡ pending_weight r calls call
+weight_plain : (r : Rank) (calls : List Call) (call : Call) (hs : List Held) (own : ℕ) → started_of call.body ≡ [] → AreHeld hs (pending r calls) → own ≡ sum_by part_weight (parts_behind r calls call) → weight_of hs + own ≡ pending_weight r calls call
 weight_plain r calls call hs own e held w =
-    let none : operations_weight (started r calls call) ≡ 0 = ap operations_weight (started_none r calls call e) in
+    let none : operations_weight (started r calls call) ≡ 0 = ap operations_weight (ap (started_from r calls call 0) e) in
     let all = held_weight hs (pending r calls) held in
     omega (arith, none, all, w)
 
-pub limit_plain : (r : Rank) (calls : List Call) (call : Call) (hs : List Held) (size own : ℕ) (wide : Bool) → r.size ≡ size → is_persistent_kind call.body ≡ false → AreHeld hs (pending r calls) → own ≡ sum_by part_weight (parts_behind r calls call)
+pub limit_plain : (r : Rank) (calls : List Call) (call : Call) (hs : List Held) (size own : ℕ) (wide : Bool) → r.size ≡ size → started_of call.body ≡ [] → AreHeld hs (pending r calls) → own ≡ sum_by part_weight (parts_behind r calls call)
     → wide ≡ nat_lt (most_pending size) (weight_of hs + own) → pending_limit_at r calls call ≡ (if wide then Some limit.PendingWeight else None)
 unfolding pending_limit_at
 limit_plain r calls call hs size own wide s e held w is =
@@ -125,3 +127,33 @@ unfolding pending_clash
 clash_plain r calls call rank part e plain =
     ap (λ (n : ℕ). clash_of n (pending r calls) (numbered part (parts_behind r calls call))) (sym e)
     ∙ ap (λ (b : Bool). if b then clash_of r.rank (pending r calls ++ started_below r calls call part) (started_at r calls call part (slice_get (started_of call.body) part)) else clash_of r.rank (pending r calls) (numbered part (parts_behind r calls call))) (sym plain)
+
+-- ---- calls that make persistent requests
+
+pub init_starts : (b : Body) → is_start_kind b ≡ false → started_of b ≡ []
+init_starts (Frame x) e = refl
+init_starts (Point x) e = refl
+init_starts (Finish x) e = refl
+init_starts (Derive x) e = refl
+init_starts (Object x) e = refl
+init_starts (Collective x) e = refl
+init_starts (Persist (Start request)) e = let bad : true ≡ false = e in absurd cc
+init_starts (Persist (Startall requests)) e = let bad : true ≡ false = e in absurd cc
+init_starts (Persist (SendInit a b c d f g h)) e = refl
+init_starts (Persist (SsendInit a b c d f g h)) e = refl
+init_starts (Persist (RecvInit a b c d f g h)) e = refl
+init_starts (Started x) e = refl
+
+pub pending_init : (r : Rank) (calls : List Call) (call : Call) → is_persistent_kind call.body ≡ true → is_start_kind call.body ≡ false → left_by call (pending r calls) ≡ pending r (calls ++ call ∷ [])
+unfolding persists
+pending_init r calls call p s =
+    let none : begun r calls call ≡ [] =
+    ap (λ (q : Bool). begun_with (length calls) (if q then None else request_in (made_by call)) (parts_behind r calls call) ++ started r calls call) p
+    ∙ ap (started_from r calls call 0) (init_starts call.body s) in
+    sym (pending_more r calls call ∙ ap (λ (l : List Operation). left_by call (pending r calls) ++ l) none ∙ append-nil (left_by call (pending r calls)))
+
+pub clash_init : (r : Rank) (calls : List Call) (call : Call) (part : ℕ) → is_persistent_kind call.body ≡ true → is_start_kind call.body ≡ false → pending_clash r calls call part ≡ None
+unfolding pending_clash
+clash_init r calls call part p s =
+    ap (λ (b : Bool). if b then clash_of r.rank (pending r calls ++ started_below r calls call part) (started_at r calls call part (slice_get (started_of call.body) part)) else clash_of r.rank (pending r calls) (numbered part (parts_behind r calls call))) p
+    ∙ ap (λ (l : List ℕ). clash_of r.rank (pending r calls ++ started_from r calls call 0 (take part l)) (started_at r calls call part (slice_get l part))) (init_starts call.body s)

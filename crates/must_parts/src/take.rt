@@ -1,13 +1,14 @@
 //! The buffers of a call beside those of the operations that are pending.
 
-ghost use Rattle.std.specs.Prelude.{◌≡◌, ◌/◌, ◌+◌, ◌++◌, ◌∷◌, [], ◌≤◌, ◌^◌, ℕ, false, nat_lt, List, length, None, IfOk, IfErr, OnOk};
+ghost use Rattle.std.specs.Prelude.{◌≡◌, ◌/◌, ◌+◌, ◌++◌, ◌∷◌, [], ◌≤◌, ◌^◌, ℕ, true, false, nat_lt, List, length, None, IfOk, IfErr, OnOk};
 ghost use Rattle.must_call.specs.declared.call.Call.{Call};
 ghost use Rattle.must_find.specs.Adds.{Adds};
 ghost use Rattle.must_rules.specs.Rank.{Rank};
 ghost use Rattle.must_rules.specs.Making.{is_persistent_kind, made_by};
 ghost use Rattle.must_rules.specs.UsableParts.{usable_parts};
+ghost use Rattle.must_rules.specs.Starts.{is_start_kind};
 ghost use Rattle.must_rules.specs.Parts.{Part};
-ghost use Rattle.must_rules.specs.PendingOperations.{Operation, pending as pending_behind, begun_with, request_in, most_pending, pending_limit_at};
+ghost use Rattle.must_rules.specs.PendingOperations.{Operation, pending as pending_behind, parts_behind, begun_with, request_in, most_pending, pending_limit_at};
 ghost use Rattle.must_parts.specs.Placing.{ArePlaced};
 ghost use Rattle.must_parts.specs.Holding.{AreHeld};
 ghost use Rattle.must_parts.specs.Telling.{Sees};
@@ -92,4 +93,37 @@ pub fn take_plain<V: View>(
     finish_call(pending, call);
     begin_made(pending, at.call, made(call), placed)?;
     Ok(())
+}
+
+/// Takes a call that makes a persistent request, and answers its parts, for when the request is started: adds its rows of T1. It begins
+/// nothing. The rest is as in [`take_plain`].
+pub fn take_init<V: View>(
+    pending: &mut Pending,
+    alloc: Global,
+    view: &V,
+    types: &Datatypes,
+    at: Place,
+    size: u32,
+    call: &Call,
+    usable: u8,
+    rows: &mut Findings,
+) -> Result<Vec<Placed>, BuffersFault>
+    requires size { 1 ≤ size }
+    requires usable { usable ≡ usable_parts (V.facts view.now) (V.sound view.now) call.now.body }
+    requires init { (is_persistent_kind call.now.body ≡ true) × (is_start_kind call.now.body ≡ false) }
+    ensures rows { OnOk result ((r : Rank) (calls : List Call) → r.rank ≡ at.rank → length calls ≡ at.call → Sees r calls (V.facts view.now) (V.sound view.now) (V.starts view.now) types.now → Adds rows.old rows.new (BufferRows at r calls call.now)) }
+    ensures stands { OnOk result ((r : Rank) (calls : List Call) → AreHeld pending.old (pending_behind r calls) → AreHeld pending.new (pending_behind r (calls ++ call.now ∷ []))) }
+    ensures parts { IfOk result (λ parts. (r : Rank) (calls : List Call) → Sees r calls (V.facts view.now) (V.sound view.now) (V.starts view.now) types.now → ArePlaced parts.items (parts_behind r calls call.now)) }
+    ensures within { OnOk result ((r : Rank) (calls : List Call) → r.size ≡ size → Sees r calls (V.facts view.now) (V.sound view.now) (V.starts view.now) types.now → AreHeld pending.old (pending_behind r calls) → pending_limit_at r calls call.now ≡ None) }
+    ensures over { IfErr result (λ fault. (r : Rank) (calls : List Call) → r.size ≡ size → Sees r calls (V.facts view.now) (V.sound view.now) (V.starts view.now) types.now → AreHeld pending.old (pending_behind r calls) → IsPendingLimit (pending_limit_at r calls call.now) fault) }
+{
+    let told = told_parts(alloc, view, types, call, usable)?;
+    let weight = weight_of(types.table(), told.as_slice())?;
+    if is_too_wide(size, pending.weight(), weight)? {
+        return Err(BuffersFault::TooWide);
+    }
+    let placed = place_parts(alloc, types.table(), told.as_slice())?;
+    add_overlaps(rows, at, placed.as_slice())?;
+    finish_call(pending, call);
+    Ok(placed)
 }

@@ -16,7 +16,7 @@ use Rattle.must_parts.specs.Placing.{ArePlaced}
 use Rattle.must_parts.specs.Holding.{AreHeld}
 use Rattle.must_parts.specs.Rows.{IsOfRule, OverlapRows}
 use Rattle.must_parts.proofs.Rows.{both_rules}
-use Rattle.must_parts.proofs.Taking.{low_parts, limit_plain, clash_plain, pending_plain}
+use Rattle.must_parts.proofs.Taking.{low_parts, starts_none, limit_plain, clash_plain, pending_plain}
 use Rattle.must_parts.proofs.take.take_plain.Goals as goal
 
 pub returns-then-branch-clause-over : goal.returns-then-branch-clause-over
@@ -26,7 +26,7 @@ returns-then-branch-clause-over g c = λ r calls size sees held.
     subst (λ (tb : Types). AreTold tb.slots c.as_slice.result.now ps) (sym c.table.ensures)
     (subst (λ (l : List Told). AreTold c.args.types.now.table.slots l ps) (sym c.as_slice.ensures.value) (c.in_ok-told.ensures r calls sees)) in
     let wide = c.in_ok-is_too_wide.ensures ∙ ap (λ n. nat_lt (most_pending c.args.size) (n + c.in_ok-weight.weight)) c.weight.ensures in
-    let reached = limit_plain r calls c.args.call.now c.args.pending.now c.args.size c.in_ok-weight.weight c.in_ok-is_too_wide.field-0 size c.requires.plain held (c.in_ok-weight.ensures ps told) wide in
+    let reached = limit_plain r calls c.args.call.now c.args.pending.now c.args.size c.in_ok-weight.weight c.in_ok-is_too_wide.field-0 size (starts_none c.args.call.now.body c.requires.plain) held (c.in_ok-weight.ensures ps told) wide in
     reached ∙ ap (λ (b : Bool). if b then Some PendingWeight else None) c.if-branch.true
 
 pub returns-clause-within : goal.returns-clause-within
@@ -36,7 +36,7 @@ returns-clause-within g c = λ r calls size sees held.
     subst (λ (tb : Types). AreTold tb.slots c.as_slice.result.now ps) (sym c.table.ensures)
     (subst (λ (l : List Told). AreTold c.args.types.now.table.slots l ps) (sym c.as_slice.ensures.value) (c.in_ok-told.ensures r calls sees)) in
     let wide = c.in_ok-is_too_wide.ensures ∙ ap (λ n. nat_lt (most_pending c.args.size) (n + c.in_ok-weight.weight)) c.weight.ensures in
-    let reached = limit_plain r calls c.args.call.now c.args.pending.now c.args.size c.in_ok-weight.weight c.in_ok-is_too_wide.field-0 size c.requires.plain held (c.in_ok-weight.ensures ps told) wide in
+    let reached = limit_plain r calls c.args.call.now c.args.pending.now c.args.size c.in_ok-weight.weight c.in_ok-is_too_wide.field-0 size (starts_none c.args.call.now.body c.requires.plain) held (c.in_ok-weight.ensures ps told) wide in
     reached ∙ ap (λ (b : Bool). if b then Some PendingWeight else None) c.if-branch.false
 
 pub returns-clause-rows : goal.returns-clause-rows
