@@ -1,7 +1,8 @@
 -- The first clash with operations that are held.
-use Rattle.std.proofs.Common.{◌≡◌, ℕ, ◌<◌, ◌≤◌, Bool, true, false, ◌||◌, ◌&&◌, ◌⊎◌, inl, inr, List, [], ◌∷◌, ◌++◌, Option, Some, None, refl, sym, ap, subst, ◌∙◌, arith}
+use Rattle.std.proofs.Common.{◌≡◌, ℕ, ◌<◌, ◌≤◌, Bool, true, false, ◌||◌, ◌&&◌, ◌⊎◌, inl, inr, List, [], ◌∷◌, ◌++◌, Option, Some, None, refl, sym, ap, subst, ◌∙◌, arith, map, take, ◌-◌, append_assoc, append-nil}
 use Rattle.std.specs.Prelude.{if◌then◌else◌, ℤ, ◌≤ℤ◌, ◌<ℤ◌, int_lt, nat_lt, ◌==◌}
-use Rattle.std.specs.Option.{option_map}
+use Rattle.std.specs.Option.{option_map, option_to_list, MatchOption}
+use Rattle.std.proofs.lemmas.List.{map-append}
 use Rattle.std.proofs.lemmas.Int.{ints}
 use Rattle.must_type.specs.Maps.{Entry}
 use Rattle.must_span.specs.declared.ranges.AddressRange.{AddressRange}
@@ -14,10 +15,13 @@ use Rattle.must_pending.specs.declared.held.Held.{Held}
 use Rattle.must_pending.specs.Clashes.{Disagree, Clashes, IsClash, IsFirst, IsNoLater}
 use Rattle.must_rules.specs.Parts.{Part, entries_of}
 use Rattle.must_rules.specs.Overlaps.{least_shared}
-use Rattle.must_rules.specs.PendingOperations.{Operation, disagree, clash_with, is_before, earlier_of, first_clash}
+use Rattle.must_rules.specs.PendingOperations.{Operation, disagree, clash_with, is_before, earlier_of, first_clash, clash_answer, clash_of, operation}
 use Rattle.must_parts.specs.Firsts.{IsFirstOf}
 use Rattle.must_parts.specs.Matching.{Matched}
 use Rattle.must_parts.specs.Holding.{Holds, AreHeld}
+use Rattle.must_parts.specs.declared.placed.Placed.{Placed}
+use Rattle.must_parts.specs.Placing.{IsPlaced, IsPlacedOf, ArePlaced}
+use Rattle.must_parts.proofs.Matching.{Last, matched_append, matched_last, matched_none}
 use Rattle.must_parts.proofs.Shared.{shared_first}
 
 -- ---- one clash at the most
@@ -134,3 +138,46 @@ first_of (h ∷ hs) (o ∷ ops) s p m b = joined h hs s p.access (clash_with p o
 -- what is found among those that are held is the first clash
 pub first_is : (hs : List Held) (ops : List Operation) (s : List AddressRange) (p : Part) (r : Option (ℕ × ℤ)) → AreHeld hs ops → AreBytes s (entries_of p) → IsFirst hs s p.access r → r ≡ first_clash ops p
 first_is hs ops s p r m b f = first_one hs s p.access r (first_clash ops p) f (first_of hs ops s p m b)
+
+-- what T3 says of a part that is laid out
+pub clash_is : (rank : ℕ) (x : Placed) (p : Option Part) (hs : List Held) (ops : List Operation) (r : Option (ℕ × ℤ)) → AreHeld hs ops → IsPlacedOf (Some x) p → IsFirst hs x.laid.spans x.access r → clash_answer rank r ≡ clash_of rank ops p
+clash_is rank x None hs ops r held is f = absurd is
+clash_is rank x (Some p) hs ops r held is f =
+    ap (clash_answer rank) (first_is hs ops x.laid.spans p r held is.laid.bytes (subst (λ (a : Access). IsFirst hs x.laid.spans a r) is.access_is f))
+
+-- one operation more
+pub begun_one : (hs new : List Held) (ops : List Operation) (x : Placed) (p : Part) (call request : ℕ) → AreHeld hs ops → IsPlaced x p
+    → new ≡ hs ++ record { call = call; request = request; access = x.access; spans = x.laid.spans; weight = x.weight } ∷ [] → AreHeld new (ops ++ operation call request p ∷ [])
+begun_one hs new ops x p call request held is e =
+    subst (λ (l : List Held). AreHeld l (ops ++ operation call request p ∷ [])) (sym e)
+    (matched_append Holds hs (record { call = call; request = request; access = x.access; spans = x.laid.spans; weight = x.weight } ∷ []) ops (operation call request p ∷ []) held
+    (record { call_is = refl; request_is = refl; access_is = is.access_is; bytes = is.laid.bytes; weight_is = is.weight_is }, tt))
+
+-- ---- parts, the last behind the others
+
+pub no_items : (xs rest : List Placed) (o : Option Placed) (n m : ℕ) (Q : Placed → Type 0) → o ≡ None → xs ≡ rest ++ option_to_list o → rest ≡ take (n - 1) xs → MatchOption o ((n ≡ 0) × (m ≡ 0)) Q → xs ≡ []
+no_items xs rest None n m Q e is front c = is ∙ append-nil rest ∙ front ∙ at n c.0
+  where
+    at : (k : ℕ) → k ≡ 0 → take (k - 1) xs ≡ []
+    at k z = let none : k - 1 ≡ 0 = omega (arith, z) in ap (λ i. take i xs) none
+no_items xs rest (Some x) n m Q e is front c = absurd cc
+
+pub last_items : (xs rest : List Placed) (o : Option Placed) (x : Placed) → o ≡ Some x → xs ≡ rest ++ option_to_list o → xs ≡ rest ++ x ∷ []
+last_items xs rest o x e is = is ∙ ap (λ p. rest ++ option_to_list p) e
+
+pub begun_none : (xs : List Placed) (ps : List Part) (hs : List Held) (ops : List Operation) (call request : ℕ) → xs ≡ [] → AreHeld hs ops → ArePlaced xs ps → AreHeld hs (ops ++ map (operation call request) ps)
+begun_none xs ps hs ops call request e held all =
+    let none : ps ≡ [] = matched_none IsPlaced ps (subst (λ (l : List Placed). ArePlaced l ps) e all) in
+    let same : ops ++ map (operation call request) ps ≡ ops = ap (λ (l : List Part). ops ++ map (operation call request) l) none ∙ append-nil ops in
+    subst (λ (l : List Operation). AreHeld hs l) (sym same) held
+
+pub begun_last : (xs rest : List Placed) (x : Placed) (ps : List Part) (hs mid new : List Held) (ops : List Operation) (call request : ℕ) → xs ≡ rest ++ x ∷ [] → AreHeld hs ops → ArePlaced xs ps
+    → ((os : List Operation) (qs : List Part) → AreHeld hs os → ArePlaced rest qs → AreHeld mid (os ++ map (operation call request) qs))
+    → ((os : List Operation) (p : Part) → AreHeld mid os → IsPlaced x p → AreHeld new (os ++ operation call request p ∷ [])) → AreHeld new (ops ++ map (operation call request) ps)
+begun_last xs rest x ps hs mid new ops call request e held all front one =
+    let split = matched_last IsPlaced rest x ps (subst (λ (l : List Placed). ArePlaced l ps) e all) in
+    let begun = one (ops ++ map (operation call request) split.front) split.last (front ops split.front held split.fronts) split.lasts in
+    let same : (ops ++ map (operation call request) split.front) ++ operation call request split.last ∷ [] ≡ ops ++ map (operation call request) ps =
+    append_assoc ops (map (operation call request) split.front) (operation call request split.last ∷ [])
+    ∙ ap (λ (l : List Operation). ops ++ l) (sym (map-append (operation call request) split.front (split.last ∷ [])) ∙ ap (map (operation call request)) (sym split.ys_are)) in
+    subst (λ (l : List Operation). AreHeld new l) same begun

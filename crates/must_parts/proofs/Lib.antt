@@ -7,3 +7,6 @@ pub mod Rooted
 pub mod Fields
 pub mod Placing
 pub mod Rows
+pub mod Ending
+pub mod Taking
+pub mod Worked

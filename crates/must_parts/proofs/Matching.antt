@@ -46,3 +46,24 @@ module _ {X Y : Type 0} (R : X → Y → Type 0) where
 
   pub matched_all : (xs : List X) (ys : List Y) (i : ℕ) → Matched R xs ys → length xs ≤ i → take i ys ≡ ys
   matched_all xs ys i m h = take_all i ys (omega (arith, matched_length xs ys m, h))
+
+  -- the last item and those before it
+  pub record Last (xs : List X) (x : X) (ys : List Y) : Type 0 where
+    pub front : List Y
+    pub last : Y
+    pub ys_are : ys ≡ front ++ last ∷ []
+    pub fronts : Matched R xs front
+    pub lasts : R x last
+
+  pub matched_last : (xs : List X) (x : X) (ys : List Y) → Matched R (xs ++ x ∷ []) ys → Last xs x ys
+  matched_last [] x [] m = absurd m
+  matched_last [] x (y ∷ []) m = record { front = []; last = y; ys_are = refl; fronts = tt; lasts = m.0 }
+  matched_last [] x (y ∷ z ∷ ys) m = absurd m.1
+  matched_last (w ∷ xs) x [] m = absurd m
+  matched_last (w ∷ xs) x (y ∷ ys) m =
+      let rest = matched_last xs x ys m.1 in
+      record { front = y ∷ rest.front; last = rest.last; ys_are = ap (λ (l : List Y). y ∷ l) rest.ys_are; fronts = (m.0, rest.fronts); lasts = rest.lasts }
+
+  pub matched_none : (ys : List Y) → Matched R [] ys → ys ≡ []
+  matched_none [] m = refl
+  matched_none (y ∷ ys) m = absurd m

@@ -13,7 +13,7 @@ use Rattle.must_rules.specs.Parts.{Part, numbered}
 use Rattle.must_rules.specs.Overlaps.{overlapping, shared_parts, overlap_within, overlap_between}
 use Rattle.must_parts.specs.Rows.{HaveNumbers, IsOfRule, OverlapRows}
 
-no_such : (ps : List Part) (n : ℕ) → HaveNumbers ps → numbered (suc (suc n)) ps ≡ None
+pub no_such : (ps : List Part) (n : ℕ) → HaveNumbers ps → numbered (suc (suc n)) ps ≡ None
 no_such [] n h = refl
 no_such (p ∷ ps) n h =
     let low = h.0 in
@@ -47,6 +47,12 @@ two_parts at rule answers none old mid new a b = λ f. (there f, back f)
     back f (inl h) = (b f).1 (inl ((a f).1 (inl h)))
     back f (inr h) = by_part f f.part refl h
 
+-- the same with the answers told
+pub told_two : (at : Place) (rule : Rule) (answers : ℕ → Option Answer) → ((n : ℕ) → answers (suc (suc n)) ≡ None) → (old mid new : List Finding) (a b : Option Answer) → a ≡ answers 0 → b ≡ answers 1
+    → Adds old mid (IsAnswer at.rank at.call rule 0 a) → Adds mid new (IsAnswer at.rank at.call rule 1 b) → Adds old new (IsOfRule at rule answers)
+told_two at rule answers none old mid new a b ea eb p q =
+    two_parts at rule answers none old mid new (subst (λ (o : Option Answer). Adds old mid (IsAnswer at.rank at.call rule 0 o)) ea p) (subst (λ (o : Option Answer). Adds mid new (IsAnswer at.rank at.call rule 1 o)) eb q)
+
 no_third : (answer : Option Answer) (n : ℕ) → at_part 1 answer (suc (suc n)) ≡ None
 no_third answer n = let other : ((suc (suc n)) == 1) ≡ false = grind arith in ap (λ (b : Bool). cond b answer None) other
 
@@ -66,7 +72,7 @@ at_one at rule answer old new a = λ f. (there f, back f)
     back f (inl h) = (a f).1 (inl h)
     back f (inr h) = by_part f f.part refl h
 
-both_rules : (old mid new : List Finding) (P Q : Finding → Type 0) → Adds old mid P → Adds mid new Q → Adds old new (λ f. P f ⊎ Q f)
+pub both_rules : (old mid new : List Finding) (P Q : Finding → Type 0) → Adds old mid P → Adds mid new Q → Adds old new (λ f. P f ⊎ Q f)
 both_rules old mid new P Q a b = λ f. (there f, back f)
   where
     there : (f : Finding) → Has new f → Has old f ⊎ (P f ⊎ Q f)
@@ -85,3 +91,15 @@ overlap_rows at ps r0 r1 r2 r3 a b t low ea eb et p q s =
     both_rules r0 r2 r3 (IsOfRule at T1 (overlap_within ps)) (IsOfRule at T2 (overlap_between ps))
     (two_parts at T1 (overlap_within ps) (λ n. ap overlapping (no_such ps n low)) r0 r1 r2 (subst (λ (o : Option Answer). Adds r0 r1 (IsAnswer at.rank at.call T1 0 o)) ea p) (subst (λ (o : Option Answer). Adds r1 r2 (IsAnswer at.rank at.call T1 1 o)) eb q))
     (at_one at T2 (shared_parts (numbered 0 ps) (numbered 1 ps)) r2 r3 (subst (λ (o : Option Answer). Adds r2 r3 (IsAnswer at.rank at.call T2 1 o)) et s))
+
+-- beside a rule that finds nothing
+pub with_none : (at : Place) (rule : Rule) (answers : ℕ → Option Answer) (P : Finding → Type 0) (old new : List Finding) → ((n : ℕ) → answers n ≡ None) → Adds old new P → Adds old new (λ f. P f ⊎ IsOfRule at rule answers f)
+with_none at rule answers P old new none a = λ f. (there f, back f)
+  where
+    there : (f : Finding) → Has new f → Has old f ⊎ (P f ⊎ IsOfRule at rule answers f)
+    there f h = elim ((a f).0 h) [ inl o ↦ inl o | inr p ↦ inr (inl p) ]
+
+    back : (f : Finding) → Has old f ⊎ (P f ⊎ IsOfRule at rule answers f) → Has new f
+    back f (inl h) = (a f).1 (inl h)
+    back f (inr (inl p)) = (a f).1 (inr p)
+    back f (inr (inr q)) = absurd (none_is_not (answers f.part) (f.see, f.value) (none f.part) q.gives)

@@ -6,3 +6,4 @@ pub mod Laying
 pub mod Placing
 pub mod Rows
 pub mod Holding
+pub mod Ending

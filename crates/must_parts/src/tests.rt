@@ -21,7 +21,7 @@ use std::test::Fail;
 /// What a rank of a small run knows: numbers below 64 are predefined and all others were made by call 0, communicator 1 is the
 /// world, and all types are sound and committed.
 #[derive(Drop)]
-struct Known {
+pub(crate) struct Known {
     world: Group,
     position: u32,
 }
@@ -103,10 +103,10 @@ impl View for Known {
     }
 }
 
-const INT: u32 = 7;
+pub(crate) const INT: u32 = 7;
 
 /// The types of a rank that made 64, four ints with a gap of one behind each, and 65, two ints at one place.
-fn types(rt: &impl Abort, alloc: Global) -> Result<Datatypes, NoMemory> {
+pub(crate) fn types(rt: &impl Abort, alloc: Global) -> Result<Datatypes, NoMemory> {
     let mut types = Datatypes::new(alloc)?;
     for (stride, count, made) in [(2, 4, 64), (0, 2, 65)] {
         let call = Call {
@@ -129,7 +129,7 @@ fn types(rt: &impl Abort, alloc: Global) -> Result<Datatypes, NoMemory> {
 }
 
 /// The rank at this position of a world of three ranks.
-fn rank_at(alloc: Global, position: u32) -> Result<Known, NoMemory> {
+pub(crate) fn rank_at(alloc: Global, position: u32) -> Result<Known, NoMemory> {
     let world = Group::of(alloc, &[0, 1, 2])?;
     Ok(Known { world, position })
 }
@@ -157,7 +157,43 @@ fn row_at(rows: &Findings, i: usize) -> Option<Row> {
     rows.get(i).map(|f| (f.rule, f.part, f.value))
 }
 
-/// A call with this body has these parts and these findings of overlaps, at this position of three ranks.
+/// The parts of call 5 with this body, at this position of three ranks.
+fn placed_at(
+    rt: &impl Abort,
+    alloc: Global,
+    position: u32,
+    body: Body,
+    rows: &mut Findings,
+) -> Result<Vec<Placed>, NoMemory> {
+    let view = rank_at(alloc, position)?;
+    let types = types(rt, alloc)?;
+    let call = Call {
+        returned: true,
+        body,
+    };
+    let at = Place { rank: 0, call: 5 };
+    assert!(rt; call.handle(u32::MAX).is_none());
+    let usable = check_args(alloc, &view, at, &call, rows)?;
+    let told = told_parts(alloc, &view, &types, &call, usable.parts)?;
+    place_parts(alloc, types.table(), &told)
+}
+
+fn expect_parts(rt: &impl Abort, placed: &[Placed], parts: &[Short]) {
+    assert_eq!(rt; placed.len(), parts.len());
+    for (i, part) in parts.iter().enumerate() {
+        let found = placed.get(i).map(|p| short_of(p));
+        assert_eq!(rt; found, Some(*part), "part {i}");
+    }
+}
+
+fn expect_rows(rt: &impl Abort, rows: &Findings, findings: &[Row]) {
+    assert_eq!(rt; rows.len(), findings.len());
+    for (i, row) in findings.iter().enumerate() {
+        assert_eq!(rt; row_at(rows, i), Some(*row), "row {i}");
+    }
+}
+
+/// A call with this body has these parts and these findings, at this position of three ranks.
 fn expect(
     rt: &impl Abort,
     alloc: Global,
@@ -166,29 +202,11 @@ fn expect(
     parts: &[Short],
     findings: &[Row],
 ) -> Result<(), Fail> {
-    let view = rank_at(alloc, position)?;
-    let types = types(rt, alloc)?;
-    let call = Call {
-        returned: true,
-        body,
-    };
-    let at = Place { rank: 0, call: 5 };
     let mut rows = Findings::new(alloc);
-    assert!(rt; call.handle(u32::MAX).is_none());
-    let usable = check_args(alloc, &view, at, &call, &mut rows)?;
-    assert_eq!(rt; rows.len(), 0);
-    let told = told_parts(alloc, &view, &types, &call, usable.parts)?;
-    let placed = place_parts(alloc, types.table(), &told)?;
-    assert_eq!(rt; placed.len(), parts.len());
-    for (i, part) in parts.iter().enumerate() {
-        let found = placed.get(i).map(|p| short_of(p));
-        assert_eq!(rt; found, Some(*part), "part {i}");
-    }
-    add_overlaps(&mut rows, at, &placed)?;
-    assert_eq!(rt; rows.len(), findings.len());
-    for (i, row) in findings.iter().enumerate() {
-        assert_eq!(rt; row_at(&rows, i), Some(*row), "row {i}");
-    }
+    let placed = placed_at(rt, alloc, position, body, &mut rows)?;
+    expect_parts(rt, &placed, parts);
+    add_overlaps(&mut rows, Place { rank: 0, call: 5 }, &placed)?;
+    expect_rows(rt, &rows, findings);
     Ok(())
 }
 
@@ -306,6 +324,150 @@ fn exchanged_buffers_overlap(rt: HostRuntime) -> Result<(), Fail> {
         1,
         exchange(4096, 4100, 64),
         &[(0, READS, 4096, 16, 4), (1, WRITES, 4100, 16, 4)],
+        &[],
+    )
+}
+
+/// A count and a displacement for each member.
+fn amounts(alloc: Global, items: &[(i32, i32)]) -> Result<AmountList, NoMemory> {
+    let mut amounts = Vec::new(alloc);
+    for (count, disp) in items {
+        amounts.push(Amount {
+            count: *count,
+            disp: *disp,
+        })?;
+    }
+    Ok(AmountList::from_vec(amounts))
+}
+
+fn counts(alloc: Global, items: &[i32]) -> Result<IntList, NoMemory> {
+    let mut counts = Vec::new(alloc);
+    counts.extend_from_slice(items)?;
+    Ok(IntList::from_vec(counts))
+}
+
+fn bcast(root: i32) -> Body {
+    Body::Collective(Collective::Bcast {
+        buf: 4096,
+        count: 2,
+        dtype: INT,
+        root,
+        comm: 1,
+    })
+}
+
+fn gather(in_place: bool, root: i32) -> Body {
+    Body::Collective(Collective::Gather {
+        in_place,
+        sbuf: 4096,
+        scount: 2,
+        stype: INT,
+        rbuf: 8192,
+        rcount: 2,
+        rtype: INT,
+        root,
+        comm: 1,
+    })
+}
+
+fn allgatherv(alloc: Global, sbuf: u64, rblocks: &[(i32, i32)]) -> Result<Body, NoMemory> {
+    Ok(Body::Collective(Collective::Allgatherv {
+        in_place: false,
+        sbuf,
+        scount: 1,
+        stype: INT,
+        rbuf: 8192,
+        rblocks: amounts(alloc, rblocks)?,
+        rtype: INT,
+        comm: 1,
+    }))
+}
+
+fn reduce_scatter(alloc: Global, in_place: bool) -> Result<Body, NoMemory> {
+    Ok(Body::Collective(Collective::ReduceScatter {
+        in_place,
+        sbuf: 4096,
+        rbuf: 8192,
+        counts: counts(alloc, &[1, 2, 4, 8])?,
+        dtype: INT,
+        op: 3,
+        comm: 1,
+    }))
+}
+
+#[test]
+fn collectives_with_a_root(rt: HostRuntime) -> Result<(), Fail> {
+    let alloc = rt.alloc();
+    expect(&rt, alloc, 1, bcast(1), &[(0, READS, 4096, 8, 1)], &[])?;
+    expect(&rt, alloc, 1, bcast(0), &[(0, WRITES, 4096, 8, 1)], &[])?;
+    expect(
+        &rt,
+        alloc,
+        1,
+        gather(false, 1),
+        &[(0, READS, 4096, 8, 1), (1, WRITES, 8192, 24, 1)],
+        &[],
+    )?;
+    expect(
+        &rt,
+        alloc,
+        1,
+        gather(true, 1),
+        &[(1, WRITES, 8192, 24, 1)],
+        &[],
+    )?;
+    // in place means nothing beside the root
+    expect(
+        &rt,
+        alloc,
+        1,
+        gather(true, 0),
+        &[(0, READS, 4096, 8, 1)],
+        &[],
+    )?;
+    Ok(())
+}
+
+#[test]
+fn blocks_by_member(rt: HostRuntime) -> Result<(), Fail> {
+    let alloc = rt.alloc();
+    // what stands past the last member is ignored, and two blocks that overlap aren't compared
+    expect(
+        &rt,
+        alloc,
+        1,
+        allgatherv(alloc, 4096, &[(2, 0), (2, 1), (1, 4), (9, 0)])?,
+        &[(0, READS, 4096, 4, 1), (1, WRITES, 8192, 16, 3)],
+        &[],
+    )?;
+    // the least address that is shared
+    expect(
+        &rt,
+        alloc,
+        1,
+        allgatherv(alloc, 8196, &[(1, 5), (2, 0)])?,
+        &[(0, READS, 8196, 4, 1), (1, WRITES, 8192, 12, 2)],
+        &[(Rule::T2, 1, 8196)],
+    )
+}
+
+#[test]
+fn counts_by_member(rt: HostRuntime) -> Result<(), Fail> {
+    let alloc = rt.alloc();
+    expect(
+        &rt,
+        alloc,
+        1,
+        reduce_scatter(alloc, false)?,
+        &[(0, READS, 4096, 28, 1), (1, WRITES, 8192, 8, 1)],
+        &[],
+    )?;
+    expect(
+        &rt,
+        alloc,
+        1,
+        reduce_scatter(alloc, true)?,
+        &[(1, WRITES, 8192, 28, 1)],
         &[],
     )
 }
