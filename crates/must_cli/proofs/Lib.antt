@@ -1,4 +1,5 @@
 pub mod Put
-pub mod Shown
 pub mod Binding
+pub mod Checked
+pub mod Dumped
 pub mod Promised

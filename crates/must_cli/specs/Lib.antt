@@ -1,5 +1,10 @@
-pub mod Numbers
+pub mod Statuses
 pub mod Command
+pub mod Asked
 pub mod Lines
 pub mod Outside
+pub mod Writing
+pub mod CheckPromises
+pub mod DumpPromises
+pub mod Dumping
 pub mod Promises

@@ -8,9 +8,11 @@
 ghost use Rattle.std.specs.Prelude.{◌≡◌};
 ghost use Rattle.must_cli.specs.declared.WordsFault.TheVariants.{NoMemory as OutOfMemory};
 
+mod bind;
+mod check;
 mod command;
+mod dump;
 mod line;
-mod report;
 mod run;
 mod status;
 #[cfg(test)]

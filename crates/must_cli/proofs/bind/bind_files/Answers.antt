@@ -1,7 +1,7 @@
 use Rattle.std.proofs.Common.{length, sym, ap, ◌∙◌}
 use Rattle.std.proofs.lemmas.List.{length-map}
 use Rattle.must_cli.proofs.Binding.{bound_unread}
-use Rattle.must_cli.proofs.run.bind_files.Goals as goal
+use Rattle.must_cli.proofs.bind.bind_files.Goals as goal
 
 pub returns-clause-left : goal.returns-clause-left
 returns-clause-left g c =
