@@ -1,5 +1,5 @@
 -- The promises of a check, from what it answers by its status.
-use Rattle.std.proofs.Common.{◌≡◌, ℕ, List, length, map, Option, Some, None, refl, sym, ap, subst, ◌∙◌, inl, inr, arith}
+use Rattle.std.proofs.Common.{◌≡◌, ◌⊎◌, ℕ, List, length, map, Option, Some, None, refl, sym, ap, subst, ◌∙◌, inl, inr, arith}
 use Rattle.std.specs.Prelude.{◌≢◌}
 use Rattle.std.proofs.lemmas.Bool.{cases_order}
 use Rattle.std.proofs.lemmas.List.{length-map}
@@ -17,7 +17,14 @@ use Rattle.must_tree.specs.Reading.{IsAccepted, IsRefused, StopsAt}
 use Rattle.must_cli.specs.Outside.{Output, Outside}
 use Rattle.must_cli.specs.Statuses.{IsSuccess, IsRefusal, is_found, status_for}
 use Rattle.must_cli.specs.Writing.{Form}
-use Rattle.must_cli.specs.CheckPromises.{CheckAnswers, CheckPromises, IsKnownAccepted, IsKnownRefused, WholeReport, RefusedStream, OutsideFault, RefusesLowest, ReportsComplete}
+use Rattle.std.specs.Prelude.{IsTrue, is_some}
+use Rattle.std.proofs.lemmas.Bool.{false≢true}
+use Rattle.toml.specs.Data.{Members}
+use Rattle.must_settings.specs.declared.settings.Settings.{Settings}
+use Rattle.must_settings.specs.RulesFile.{rules_file}
+use Rattle.must_words.specs.Command.{Check}
+use Rattle.must_cli.specs.Settled.{RulesFile, HasRules, Settled, AreSettings, RefusedSettings, FailedRules, IsRefusedRules, AreKnown, form_of}
+use Rattle.must_cli.specs.CheckPromises.{CheckAnswers, RulesAnswers, Answers, WantOfMemory, Completeness, CheckPromises, IsKnownAccepted, IsKnownRefused, WholeReport, RefusedStream, OutsideFault, RefusesLowest, ReportsComplete}
 
 not_both : (told : List (Option (List ℕ))) (rank : ℕ) (f : StreamFault) → IsAccepted told rank → IsKnownRefused told rank f → ⊥
 not_both told rank f accepted refused =
@@ -75,6 +82,7 @@ whole_from form o err status.Malformed a is = absurd is
 whole_from form o err status.Outside a is = absurd is
 whole_from form o err status.Bound a is = absurd is
 whole_from form o err status.NoMemory a is = absurd is
+whole_from form o err status.Settings a is = absurd is
 
 refused_from : (form : Form) (o : Outside) (err : Output) (s : Status) → CheckAnswers form o err s → IsRefusal s → RefusedStream o err s
 refused_from form o err status.Clean a is = absurd is
@@ -84,6 +92,7 @@ refused_from form o err status.Malformed a is = a
 refused_from form o err status.Outside a is = absurd is
 refused_from form o err status.Bound a is = a
 refused_from form o err status.NoMemory a is = absurd is
+refused_from form o err status.Settings a is = absurd is
 
 reported : (form : Form) (o : Outside) (err : Output) (found : Rattle.std.specs.Prelude.Bool) (s : Status) → WholeReport form o err found → RefusesLowest o s
 reported form o err found s a = λ rank f lower refused above.
@@ -101,6 +110,7 @@ refuses_from form o err status.Outside (inr a) = λ rank f lower refused above.
     absurd (not_both o.told rank f (a.reads.accepted rank (told_within o.told rank refused.0 refused.1)) refused)
 refuses_from form o err status.Bound a = lowest_refused o err status.Bound tt a
 refuses_from form o err status.NoMemory a = λ rank f lower refused above. inr refl
+refuses_from form o err status.Settings a = absurd a
 
 reports_from : (form : Form) (o : Outside) (err : Output) (s : Status) → CheckAnswers form o err s → ReportsComplete o s
 reports_from form o err status.Clean a = λ streams run told records none no. inl tt
@@ -111,14 +121,107 @@ reports_from form o err status.Outside (inl a) = λ streams run told records non
 reports_from form o err status.Outside (inr a) = λ streams run told records none no. absurd (no a.cuts.rose)
 reports_from form o err status.Bound a = λ streams run told records none no. absurd (no_refusal o err status.Bound tt a streams run told records)
 reports_from form o err status.NoMemory a = λ streams run told records none no. inr refl
+reports_from form o err status.Settings a = absurd a
 
-outside_from : (form : Form) (o : Outside) (err : Output) (s : Status) → CheckAnswers form o err s → s ≡ status.Outside → OutsideFault form o err
-outside_from form o err s a e = subst (λ (t : Status). CheckAnswers form o err t) e a
+-- ---- the rules file
 
-pub check_promises : (form : Form) (o : Outside) (err : Output) (s : Status) → CheckAnswers form o err s → CheckPromises form o err s
-check_promises form o err s a = record {
-  whole_report = whole_from form o err s a;
-  refused_stream = refused_from form o err s a;
-  outside_fault = outside_from form o err s a;
-  completeness = record { refuses = refuses_from form o err s a; reports = reports_from form o err s a };
+none_is : {A : Type 0} (a : A) → None ≡ Some a → ⊥
+none_is a e = cc
+
+no_success : (file : Option RulesFile) (o : Outside) (err : Output) (s : Status) → RulesAnswers file o err s → IsSuccess s → ⊥
+no_success file o err status.Clean a is = a
+no_success file o err status.Found a is = a
+no_success file o err status.Usage a is = is
+no_success file o err status.Malformed a is = is
+no_success file o err status.Outside a is = is
+no_success file o err status.Bound a is = is
+no_success file o err status.NoMemory a is = is
+no_success file o err status.Settings a is = is
+
+no_stream : (file : Option RulesFile) (o : Outside) (err : Output) (s : Status) → RulesAnswers file o err s → IsRefusal s → ⊥
+no_stream file o err status.Clean a is = is
+no_stream file o err status.Found a is = is
+no_stream file o err status.Usage a is = is
+no_stream file o err status.Malformed a is = a
+no_stream file o err status.Outside a is = is
+no_stream file o err status.Bound a is = a
+no_stream file o err status.NoMemory a is = is
+no_stream file o err status.Settings a is = is
+
+-- a rules file that has settings isn't refused
+not_refused : (f : RulesFile) (s : Settings) → AreSettings (Some f) s → IsRefusedRules f → ⊥
+not_refused f s are r = none_is _ (sym r.2 ∙ (are r.0 r.1).0.accepted)
+
+rules_refused : (f : RulesFile) (o : Outside) (err : Output) (s : Status) → RulesAnswers (Some f) o err s → IsRefusedRules f → (s ≡ status.Settings) ⊎ (s ≡ status.NoMemory)
+rules_refused f o err status.Clean a r = absurd a
+rules_refused f o err status.Found a r = absurd a
+rules_refused f o err status.Usage a r = absurd a
+rules_refused f o err status.Malformed a r = absurd a
+rules_refused f o err status.Outside a r = absurd (r.3 a.failed)
+rules_refused f o err status.Bound a r = absurd a
+rules_refused f o err status.NoMemory a r = inr refl
+rules_refused f o err status.Settings a r = inl refl
+
+no_answer : (o : Outside) → Completeness o status.NoMemory
+no_answer o = record { refuses = λ rank f lower refused above. inr refl; reports = λ streams run told records none no. inr refl }
+
+is_none : (o : Option Members) → o ≡ None → IsTrue (is_some o) → ⊥
+is_none None e is = false≢true is
+is_none (Some ms) e is = none_is ms (sym e)
+
+rules_complete : (file : Option RulesFile) (o : Outside) (err : Output) (s : Status) → RulesAnswers file o err s → AreKnown file → Completeness o s
+rules_complete None o err status.Outside a known = absurd a
+rules_complete None o err status.Settings a known = absurd a
+rules_complete (Some f) o err status.Outside a known = absurd (known.3 a.failed)
+rules_complete (Some f) o err status.Settings a known = absurd (is_none (rules_file known.0) (a.refused known.0 known.1) known.2)
+rules_complete file o err status.Clean a known = absurd a
+rules_complete file o err status.Found a known = absurd a
+rules_complete file o err status.Usage a known = absurd a
+rules_complete file o err status.Malformed a known = absurd a
+rules_complete file o err status.Bound a known = absurd a
+rules_complete file o err status.NoMemory a known = no_answer o
+
+-- ---- a check with its settings
+
+whole_settled : (check : Check) (file : Option RulesFile) (o : Outside) (err : Output) (s : Status) → Answers check file o err s → IsSuccess s → Settled check file (λ form. WholeReport form o err (is_found s))
+whole_settled check file o err s (inl a) is = absurd (no_success file o err s a is)
+whole_settled check file o err s (inr a) is = (a.0, a.1, whole_from (form_of check a.0) o err s a.2 is)
+
+refused_settled : (check : Check) (file : Option RulesFile) (o : Outside) (err : Output) (s : Status) → Answers check file o err s → IsRefusal s → Settled check file (λ form. RefusedStream o err s)
+refused_settled check file o err s (inl a) is = absurd (no_stream file o err s a is)
+refused_settled check file o err s (inr a) is = (a.0, a.1, refused_from (form_of check a.0) o err s a.2 is)
+
+outside_settled : (check : Check) (file : Option RulesFile) (o : Outside) (err : Output) → Answers check file o err status.Outside → HasRules file (FailedRules o.out err) ⊎ Settled check file (λ form. OutsideFault form o err)
+outside_settled check file o err (inl a) = inl a
+outside_settled check file o err (inr a) = inr (a.0, a.1, a.2)
+
+settings_refused : (check : Check) (file : Option RulesFile) (o : Outside) (err : Output) → Answers check file o err status.Settings → HasRules file (RefusedSettings o.out err)
+settings_refused check file o err (inl a) = a
+settings_refused check file o err (inr a) = absurd a.2
+
+refuses_rules : (check : Check) (file : Option RulesFile) (o : Outside) (err : Output) (s : Status) → Answers check file o err s → HasRules file IsRefusedRules → (s ≡ status.Settings) ⊎ (s ≡ status.NoMemory)
+refuses_rules check None o err s a r = absurd r
+refuses_rules check (Some f) o err s (inl a) r = rules_refused f o err s a r
+refuses_rules check (Some f) o err s (inr a) r = absurd (not_refused f a.0 a.1 r)
+
+complete_from : (check : Check) (file : Option RulesFile) (o : Outside) (err : Output) (s : Status) → Answers check file o err s → AreKnown file → Completeness o s
+complete_from check file o err s (inl a) known = rules_complete file o err s a known
+complete_from check file o err s (inr a) known = let form = form_of check a.0 in record { refuses = refuses_from form o err s a.2; reports = reports_from form o err s a.2 }
+
+pub check_promises : (check : Check) (file : Option RulesFile) (o : Outside) (err : Output) (s : Status) → Answers check file o err s → CheckPromises check file o err s
+check_promises check file o err s a = record {
+  whole_report = whole_settled check file o err s a;
+  refused_stream = refused_settled check file o err s a;
+  outside_fault = λ e. outside_settled check file o err (subst (λ (t : Status). Answers check file o err t) e a);
+  refused_settings = λ e. settings_refused check file o err (subst (λ (t : Status). Answers check file o err t) e a);
+  refuses_rules = refuses_rules check file o err s a;
+  completeness = complete_from check file o err s a;
 }
+
+pub check_memory : (check : Check) (file : Option RulesFile) (o : Outside) (err : Output) → Answers check file o err status.NoMemory → WantOfMemory o.out err
+check_memory check file o err (inl a) = a
+check_memory check file o err (inr a) = a.2
+
+pub check_usage : (check : Check) (file : Option RulesFile) (o : Outside) (err : Output) → Answers check file o err status.Usage → ⊥
+check_usage check file o err (inl a) = a
+check_usage check file o err (inr a) = a.2

@@ -1,5 +1,5 @@
 -- The promises of a dump, from what it answers by its status.
-use Rattle.std.proofs.Common.{◌≡◌, ◌⊎◌, ℕ, List, Option, Some, None, refl, sym, ap, subst, ◌∙◌, inl, inr}
+use Rattle.std.proofs.Common.{◌≡◌, ◌⊎◌, ℕ, List, Some, None, refl, ap, subst, ◌∙◌, inl, inr}
 use Rattle.must_call.specs.declared.call.Call.{Call}
 use Rattle.must_format.specs.declared.fault.StreamFault.{StreamFault}
 use Rattle.must_format.specs.declared.fault.StreamFault.TheVariants as fault
@@ -10,7 +10,7 @@ use Rattle.must_cli.specs.declared.status.Status.{Status}
 use Rattle.must_cli.specs.declared.status.Status.TheVariants as status
 use Rattle.must_cli.specs.Statuses.{IsRefusal, status_for}
 use Rattle.must_cli.specs.Outside.{Output}
-use Rattle.must_cli.specs.DumpPromises.{Single, WholeText, StopsDump, StoppedDump, CutText, DumpAnswers, RefusesStream, PutsComplete, DumpPromises}
+use Rattle.must_cli.specs.DumpPromises.{Single, StopsDump, StoppedDump, CutText, DumpAnswers, RefusesStream, PutsComplete, DumpPromises}
 
 -- ---- streams
 
@@ -59,6 +59,7 @@ refuses_from o err status.Malformed a = one_status o err status.Malformed tt a
 refuses_from o err status.Outside (inl a) = λ bytes f told refused none. absurd (none (failed_there o a.fault a.answer_is a.stops))
 refuses_from o err status.Outside (inr a) = λ bytes f told refused none. let d = (a.cut bytes told).dump in absurd (not_both bytes d.calls f d.complete refused)
 refuses_from o err status.Bound a = one_status o err status.Bound tt a
+refuses_from o err status.Settings a = absurd a
 refuses_from o err status.NoMemory a = λ bytes f told refused none. inr refl
 
 puts_from : (o : Single) (err : Output) (s : Status) → DumpAnswers o err s → PutsComplete o s
@@ -69,6 +70,7 @@ puts_from o err status.Malformed a = no_text o err status.Malformed tt a
 puts_from o err status.Outside (inl a) = λ bytes calls told complete none no. absurd (none (failed_there o a.fault a.answer_is a.stops))
 puts_from o err status.Outside (inr a) = λ bytes calls told complete none no. absurd (no a.rose)
 puts_from o err status.Bound a = no_text o err status.Bound tt a
+puts_from o err status.Settings a = absurd a
 puts_from o err status.NoMemory a = λ bytes calls told complete none no. inr refl
 
 -- ---- by the status
@@ -81,6 +83,7 @@ refused_from o err status.Malformed a is = a
 refused_from o err status.Outside a is = absurd is
 refused_from o err status.Bound a is = a
 refused_from o err status.NoMemory a is = absurd is
+refused_from o err status.Settings a is = absurd is
 
 outside_from : (o : Single) (err : Output) (s : Status) → DumpAnswers o err s → s ≡ status.Outside → StoppedDump o err s ⊎ CutText o err
 outside_from o err status.Clean a e = absurd cc
@@ -90,10 +93,12 @@ outside_from o err status.Malformed a e = absurd cc
 outside_from o err status.Outside a e = a
 outside_from o err status.Bound a e = absurd cc
 outside_from o err status.NoMemory a e = absurd cc
+outside_from o err status.Settings a e = absurd a
 
 pub dump_promises : (o : Single) (err : Output) (s : Status) → DumpAnswers o err s → DumpPromises o err s
 dump_promises o err s a = record {
   never_found = λ e. subst (λ (t : Status). DumpAnswers o err t) e a;
+  never_settings = λ e. subst (λ (t : Status). DumpAnswers o err t) e a;
   whole_text = λ e. subst (λ (t : Status). DumpAnswers o err t) e a;
   refused_stream = refused_from o err s a;
   outside_fault = outside_from o err s a;

@@ -1,17 +1,19 @@
 -- The promises of the program, from what its commands answer.
-use Rattle.std.proofs.Common.{◌≡◌, ℕ, List, [], ◌∷◌, map, Option, Some, None, sym, subst, ◌∙◌}
+use Rattle.std.proofs.Common.{◌≡◌, ℕ, List, [], ◌∷◌, length, take, map, Option, Some, None, sym, subst, ◌∙◌}
 use Rattle.std.specs.Prelude.{◌≢◌}
 use Rattle.must_base.specs.Views.{SourceView}
 use Rattle.must_tree.specs.Told.{AreTied}
 use Rattle.must_cli.specs.declared.status.Status.{Status}
 use Rattle.must_cli.specs.declared.status.Status.TheVariants as status
-use Rattle.must_cli.specs.Command.{Check, Command, Checks, Dumps, command}
+use Rattle.must_words.specs.Command.{Check, Command, Checks, Dumps, command}
 use Rattle.must_cli.specs.Outside.{Output, Outside}
-use Rattle.must_cli.specs.Writing.{Form}
-use Rattle.must_cli.specs.CheckPromises.{CheckAnswers, WantOfMemory}
+use Rattle.must_cli.specs.Settled.{RulesFile, AreTiedRules, names_of, rules_met}
+use Rattle.must_cli.specs.Parts.{TiedCheck}
+use Rattle.must_cli.proofs.PartLists.{files_told, rules_told}
+use Rattle.must_cli.specs.CheckPromises.{Answers, WantOfMemory}
 use Rattle.must_cli.specs.DumpPromises.{single, DumpAnswers}
-use Rattle.must_cli.specs.Promises.{World, out_of, err_of, met, form_of, IsBound, RefusedWords, Checked, DumpedFile, Promises}
-use Rattle.must_cli.proofs.Checked.{check_promises}
+use Rattle.must_cli.specs.Promises.{World, out_of, err_of, met, IsBoundCheck, RefusedWords, Checked, DumpedFile, Promises}
+use Rattle.must_cli.proofs.Checked.{check_promises, check_memory, check_usage}
 use Rattle.must_cli.proofs.Dumped.{dump_promises}
 
 -- the bytes of a file by its name, where they are told
@@ -42,27 +44,28 @@ accepted words out err answer c is not = record {
 
 -- ---- a check
 
-check_is_no_usage : (form : Form) (o : Outside) (err : Output) (s : Status) → CheckAnswers form o err s → s ≡ status.Usage → ⊥
-check_is_no_usage form o err s a e = subst (λ (t : Status). CheckAnswers form o err t) e a
-
-memory_of_check : (form : Form) (o : Outside) (err : Output) (s : Status) → CheckAnswers form o err s → s ≡ status.NoMemory → WantOfMemory o.out err
-memory_of_check form o err s a e = subst (λ (t : Status). CheckAnswers form o err t) e a
+bound_check : (told : Told) (check : Check) (after : World) → after.names ≡ names_of check → TiedCheck (length check.files) (map told (names_of check)) after.parts → IsBoundCheck told check after
+bound_check told check after names tied = record {
+  names = names;
+  streams = subst (λ (t : List (Option (List ℕ))). AreTied t (take (length check.files) after.parts)) (files_told told check) tied.streams;
+  rules = subst (λ (f : Option RulesFile). AreTiedRules f) (rules_told told check after.parts) tied.rules;
+}
 
 pub promises_of_check : (words : List (List ℕ)) (check : Check) (told : Told) (before after : World) (answer : Status)
-    → command words ≡ Some (Checks check) → CheckAnswers (form_of check) (met told before after check.files) (err_of before after) answer
-    → (answer ≢ status.NoMemory → after.names ≡ check.files)
-    → (answer ≢ status.NoMemory → AreTied (map told check.files) after.parts) → Promises words told before after answer
+    → command words ≡ Some (Checks check) → Answers check (rules_met told after.parts check) (met told before after check) (err_of before after) answer
+    → (answer ≢ status.NoMemory → after.names ≡ names_of check)
+    → (answer ≢ status.NoMemory → TiedCheck (length check.files) (map told (names_of check)) after.parts) → Promises words told before after answer
 promises_of_check words check told before after answer is a names tied =
-    let form = form_of check in
-    let o : Outside = met told before after check.files in
+    let file : Option RulesFile = rules_met told after.parts check in
+    let o : Outside = met told before after check in
     let err = err_of before after in
     let here : Checked told before after answer check = record {
-      files = λ enough. record { names = names enough; parts = tied enough };
-      answers = check_promises form o err answer a;
+      files = λ enough. bound_check told check after (names enough) (tied enough);
+      answers = check_promises check file o err answer a;
     } in
     record {
-      refused_words = accepted words (out_of before after) err answer (Checks check) is (check_is_no_usage form o err answer a);
-      want_of_memory = memory_of_check form o err answer a;
+      refused_words = accepted words (out_of before after) err answer (Checks check) is (λ e. check_usage check file o err (subst (λ (t : Status). Answers check file o err t) e a));
+      want_of_memory = λ e. check_memory check file o err (subst (λ (t : Status). Answers check file o err t) e a);
       check = λ other e. subst (λ (c : Check). Checked told before after answer c) (same_check check other (sym is ∙ e)) here;
       dump = λ file e. absurd (no_dump check file (sym is ∙ e));
     }

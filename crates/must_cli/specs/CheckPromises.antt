@@ -1,6 +1,6 @@
 -- What a check promises: what each answer says of the run, and which answer is forced. What is said of a rank's bytes holds
 -- where they are told.
-use Rattle.std.specs.Prelude.{◌≡◌, ◌≢◌, ◌⊎◌, ℕ, ◌<◌, Bool, true, false, List, length, Option, Some, None, slice_get}
+use Rattle.std.specs.Prelude.{◌≡◌, ◌⊎◌, ℕ, ◌<◌, Bool, true, false, List, length, Option, Some, slice_get}
 use Rattle.must_base.specs.Views.{SourceView}
 use Rattle.must_call.specs.declared.call.Call.{Call}
 use Rattle.must_format.specs.declared.fault.StreamFault.{StreamFault}
@@ -8,7 +8,7 @@ use Rattle.must_format.specs.declared.fault.StreamFault.TheVariants as fault
 use Rattle.must_find.specs.declared.finding.Finding.{Finding}
 use Rattle.must_rules.specs.Run.{Run}
 use Rattle.must_rules.specs.Streams.{Accepted, Refused, Records}
-use Rattle.must_tree.specs.Told.{told_at, HasFailed, AreTied}
+use Rattle.must_tree.specs.Told.{told_at, HasFailed}
 use Rattle.must_tree.specs.Reading.{AreTold, ReadsRun, Stops}
 use Rattle.must_cli.specs.declared.status.Status.{Status}
 use Rattle.must_cli.specs.declared.status.Status.TheVariants as status
@@ -16,6 +16,8 @@ use Rattle.must_cli.specs.Statuses.{IsSuccess, IsRefusal, is_found, status_for}
 use Rattle.must_cli.specs.Outside.{Output, Outside, IsUnchanged, HasCut, Puts}
 use Rattle.must_cli.specs.Lines.{rank_line, write_line, memory_line}
 use Rattle.must_cli.specs.Writing.{Form, Writes, Cuts}
+use Rattle.must_words.specs.Command.{Check}
+use Rattle.must_cli.specs.Settled.{RulesFile, HasRules, Settled, RefusedSettings, FailedRules, IsRefusedRules, AreKnown}
 
 -- ---- the answers
 
@@ -68,6 +70,7 @@ CheckAnswers form o err status.Malformed = RefusedStream o err status.Malformed
 CheckAnswers form o err status.Outside = OutsideFault form o err
 CheckAnswers form o err status.Bound = RefusedStream o err status.Bound
 CheckAnswers form o err status.NoMemory = WantOfMemory o.out err
+CheckAnswers form o err status.Settings = ⊥
 
 -- ---- completeness
 
@@ -108,10 +111,29 @@ pub record Completeness (o : Outside) (answer : Status) : Type 0 where
   pub refuses : RefusesLowest o answer
   pub reports : ReportsComplete o answer
 
+-- ---- with the settings
+
+-- what the rules file of a check answers where it stops the check
+abbrev pub RulesAnswers : Option RulesFile → Outside → Output → Status → Type 0
+RulesAnswers file o err status.Clean = ⊥
+RulesAnswers file o err status.Found = ⊥
+RulesAnswers file o err status.Usage = ⊥
+RulesAnswers file o err status.Malformed = ⊥
+RulesAnswers file o err status.Outside = HasRules file (FailedRules o.out err)
+RulesAnswers file o err status.Bound = ⊥
+RulesAnswers file o err status.NoMemory = WantOfMemory o.out err
+RulesAnswers file o err status.Settings = HasRules file (RefusedSettings o.out err)
+
+-- what a check answers: the rules file stops it, or the settings stand and the run is checked
+abbrev pub Answers : Check → Option RulesFile → Outside → Output → Status → Type 0
+Answers check file o err answer = RulesAnswers file o err answer ⊎ Settled check file (λ form. CheckAnswers form o err answer)
+
 -- ---- all promises of a check
 
-pub record CheckPromises (form : Form) (o : Outside) (err : Output) (answer : Status) : Type 0 where
-  pub whole_report : IsSuccess answer → WholeReport form o err (is_found answer)
-  pub refused_stream : IsRefusal answer → RefusedStream o err answer
-  pub outside_fault : answer ≡ status.Outside → OutsideFault form o err
-  pub completeness : Completeness o answer
+pub record CheckPromises (check : Check) (file : Option RulesFile) (o : Outside) (err : Output) (answer : Status) : Type 0 where
+  pub whole_report : IsSuccess answer → Settled check file (λ form. WholeReport form o err (is_found answer))
+  pub refused_stream : IsRefusal answer → Settled check file (λ form. RefusedStream o err answer)
+  pub outside_fault : answer ≡ status.Outside → HasRules file (FailedRules o.out err) ⊎ Settled check file (λ form. OutsideFault form o err)
+  pub refused_settings : answer ≡ status.Settings → HasRules file (RefusedSettings o.out err)
+  pub refuses_rules : HasRules file IsRefusedRules → (answer ≡ status.Settings) ⊎ (answer ≡ status.NoMemory)
+  pub completeness : AreKnown file → Completeness o answer

@@ -63,6 +63,7 @@ DumpAnswers o err status.Malformed = StoppedDump o err status.Malformed
 DumpAnswers o err status.Outside = StoppedDump o err status.Outside ⊎ CutText o err
 DumpAnswers o err status.Bound = StoppedDump o err status.Bound
 DumpAnswers o err status.NoMemory = WantOfMemory o.out err
+DumpAnswers o err status.Settings = ⊥
 
 -- ---- completeness
 
@@ -82,6 +83,7 @@ PutsComplete o answer = (bytes : List ℕ) (calls : List Call) → o.told ≡ So
 
 pub record DumpPromises (o : Single) (err : Output) (answer : Status) : Type 0 where
   pub never_found : answer ≡ status.Found → ⊥
+  pub never_settings : answer ≡ status.Settings → ⊥
   pub whole_text : answer ≡ status.Clean → WholeText o err
   pub refused_stream : IsRefusal answer → StoppedDump o err answer
   pub outside_fault : answer ≡ status.Outside → StoppedDump o err answer ⊎ CutText o err

@@ -1,5 +1,5 @@
 -- What putting the text of a file's stream did.
-use Rattle.std.specs.Prelude.{◌≡◌, ◌≢◌, ℕ, List, [], ◌∷◌, Option, Some, Result, Err}
+use Rattle.std.specs.Prelude.{◌≡◌, ℕ, List, [], ◌∷◌, Option, Some, Result, Err}
 use Rattle.must_base.specs.Views.{SourceView, SinkView}
 use Rattle.must_format.specs.declared.fault.StreamFault.TheVariants as fault
 use Rattle.must_tree.specs.Told.{HasFailed}

@@ -1,9 +1,9 @@
 pub mod Statuses
-pub mod Command
-pub mod Asked
 pub mod Lines
 pub mod Outside
 pub mod Writing
+pub mod Settled
+pub mod Parts
 pub mod CheckPromises
 pub mod DumpPromises
 pub mod Dumping

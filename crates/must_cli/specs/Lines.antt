@@ -14,6 +14,9 @@ write_line = codes "write failed\n"
 abbrev pub memory_line : List ℕ
 memory_line = codes "out of memory\n"
 
+abbrev pub settings_line : List ℕ
+settings_line = codes "rules file refused\n"
+
 -- how a line names a stream of a run: by its rank
 unfoldable pub rank_name : ℕ → List ℕ
 rank_name rank = codes "rank " ++ decimal rank
@@ -35,6 +38,10 @@ fault_line stream (fault.Malformed at cause) = place_line stream (codes " malfor
 fault_line stream (fault.Bound at limit) = place_line stream (codes " bound at ") at (limit_name limit)
 fault_line stream fault.Read = read_line stream
 fault_line stream fault.NoMemory = memory_line
+
+-- the line for a rules file that couldn't be read
+abbrev pub rules_line : List ℕ
+rules_line = read_line (codes "rules file")
 
 -- the line for the fault of a rank's stream
 abbrev pub rank_line : ℕ → StreamFault → List ℕ

@@ -1,16 +1,15 @@
 -- The promises of the program.
-use Rattle.std.specs.Prelude.{◌≡◌, ◌≢◌, ◌↔◌, ℕ, List, [], ◌∷◌, map, Option, Some, None}
+use Rattle.std.specs.Prelude.{◌≡◌, ◌≢◌, ◌↔◌, ℕ, List, [], ◌∷◌, map, take, length, Option, Some, None}
 use Rattle.must_base.specs.Views.{SourceView, SinkView}
-use Rattle.must_find.specs.Rules.{usual_severities}
 use Rattle.must_tree.specs.Told.{AreTied}
 use Rattle.must_cli.specs.declared.status.Status.{Status}
 use Rattle.must_cli.specs.declared.status.Status.TheVariants as status
-use Rattle.must_cli.specs.Command.{Check, Command, Checks, Dumps, command}
+use Rattle.must_words.specs.Command.{Check, Checks, Dumps, command}
 use Rattle.must_cli.specs.Outside.{Output, output, Outside, outside, IsUnchanged, Puts}
 use Rattle.must_cli.specs.Lines.{usage_line}
-use Rattle.must_cli.specs.Writing.{Form}
+use Rattle.must_cli.specs.Settled.{names_of, rules_met, AreTiedRules}
 use Rattle.must_cli.specs.CheckPromises.{WantOfMemory, CheckPromises}
-use Rattle.must_cli.specs.DumpPromises.{Single, single, DumpPromises}
+use Rattle.must_cli.specs.DumpPromises.{single, DumpPromises}
 
 -- ---- the outside of a command
 
@@ -35,9 +34,10 @@ pub record IsBound (told : List (Option (List ℕ))) (files : List (List ℕ)) (
   pub names : after.names ≡ files
   pub parts : AreTied told after.parts
 
--- what a check of files met, where `told` gives the bytes of a file by its name, where they are told
-abbrev pub met : (List ℕ → Option (List ℕ)) → World → World → List (List ℕ) → Outside
-met told before after files = outside (map told files) after.parts (out_of before after)
+-- what a check met, where `told` gives the bytes of a file by its name, where they are told
+abbrev pub met : (List ℕ → Option (List ℕ)) → World → World → Check → Outside
+met told before after check =
+    outside (map told check.files) (take (length check.files) after.parts) (out_of before after)
 
 -- ---- the promises
 
@@ -47,14 +47,16 @@ pub record RefusedWords (words : List (List ℕ)) (out err : Output) (answer : S
   pub nothing : answer ≡ status.Usage → IsUnchanged out
   pub line : answer ≡ status.Usage → Puts err usage_line
 
--- how a check writes its report
-abbrev pub form_of : Check → Form
-form_of check = record { csv = check.csv; rules = usual_severities }
+-- The files of a check are bound, in order, and behind them its rules file; and each part is that of its file.
+pub record IsBoundCheck (told : List ℕ → Option (List ℕ)) (check : Check) (after : World) : Type 0 where
+  pub names : after.names ≡ names_of check
+  pub streams : AreTied (map told check.files) (take (length check.files) after.parts)
+  pub rules : AreTiedRules (rules_met told after.parts check)
 
 -- What a check promises: its files are bound, and its answer is that of the run.
 pub record Checked (told : List ℕ → Option (List ℕ)) (before after : World) (answer : Status) (check : Check) : Type 0 where
-  pub files : answer ≢ status.NoMemory → IsBound (map told check.files) check.files after
-  pub answers : CheckPromises (form_of check) (met told before after check.files) (err_of before after) answer
+  pub files : answer ≢ status.NoMemory → IsBoundCheck told check after
+  pub answers : CheckPromises check (rules_met told after.parts check) (met told before after check) (err_of before after) answer
 
 -- What a dump promises: its file is bound, and its answer is that of the stream.
 pub record DumpedFile (told : List ℕ → Option (List ℕ)) (before after : World) (answer : Status) (file : List ℕ) : Type 0 where

@@ -3,7 +3,7 @@ use Rattle.std.specs.Prelude.{ℕ, Bool, true, false}
 use Rattle.must_format.specs.declared.fault.StreamFault.{StreamFault}
 use Rattle.must_format.specs.declared.fault.StreamFault.TheVariants as fault
 use Rattle.must_cli.specs.declared.status.Status.{Status}
-use Rattle.must_cli.specs.declared.status.Status.TheVariants.{Clean, Found, Usage, Malformed, Outside, Bound, NoMemory}
+use Rattle.must_cli.specs.declared.status.Status.TheVariants.{Clean, Found, Usage, Malformed, Outside, Bound, NoMemory, Settings}
 
 abbrev pub number_of : Status → ℕ
 number_of Clean = 0
@@ -13,6 +13,7 @@ number_of Malformed = 3
 number_of Outside = 4
 number_of Bound = 5
 number_of NoMemory = 6
+number_of Settings = 7
 
 -- what was asked for was put
 abbrev pub IsSuccess : Status → Type 0
@@ -23,6 +24,7 @@ IsSuccess Malformed = ⊥
 IsSuccess Outside = ⊥
 IsSuccess Bound = ⊥
 IsSuccess NoMemory = ⊥
+IsSuccess Settings = ⊥
 
 -- a stream is refused
 abbrev pub IsRefusal : Status → Type 0
@@ -33,6 +35,7 @@ IsRefusal Malformed = Unit {0}
 IsRefusal Outside = ⊥
 IsRefusal Bound = Unit {0}
 IsRefusal NoMemory = ⊥
+IsRefusal Settings = ⊥
 
 -- the report has a line of a finding
 abbrev pub is_found : Status → Bool
@@ -43,6 +46,7 @@ is_found Malformed = false
 is_found Outside = false
 is_found Bound = false
 is_found NoMemory = false
+is_found Settings = false
 
 -- the status of a stream's fault
 abbrev pub status_for : StreamFault → Status

@@ -1,52 +1,45 @@
 //! The command `check`: the report of a run.
 
-ghost use Rattle.std.specs.Prelude.{◌≡◌, ◌≢◌, ◌≤◌, length, map, Err, IfOk};
+ghost use Rattle.std.specs.Prelude.{◌≡◌, ◌≢◌, ◌≤◌, length, take, map, Err, IfOk};
 ghost use Rattle.must_format.specs.declared.limits.TheConstants.{MOST_RANKS};
-ghost use Rattle.must_find.specs.Rules.{usual_severities};
 ghost use Rattle.must_report.specs.Written.{Wrote};
 ghost use Rattle.must_report.specs.declared.fault.OutFault.TheVariants.{NoMemory as OutOfMemory, Write};
-ghost use Rattle.must_tree.specs.Told.{AreTied};
-ghost use Rattle.must_tree.specs.Reading.{Analyses};
+ghost use Rattle.must_words.specs.Asked.{check_asked};
 ghost use Rattle.must_cli.specs.Outside.{output, outside};
 ghost use Rattle.must_cli.specs.Writing.{Writes, Cuts, report_in};
-ghost use Rattle.must_cli.specs.CheckPromises.{CheckAnswers};
+ghost use Rattle.must_cli.specs.Settled.{names_of, rules_met};
+ghost use Rattle.must_cli.specs.Parts.{ReadsCheck, IsEnough, TiedCheck};
+ghost use Rattle.must_cli.specs.CheckPromises.{Answers};
 
-use crate::bind::bind_files;
-use crate::command::CheckWords;
-use crate::line::{put_memory, put_rank_fault, put_write};
+use crate::bind::bind_check;
+use crate::line::{put_memory, put_rank_fault, put_rules_fault, put_settings, put_write};
+use crate::parts::{Analysed, CheckFault, read_parts};
 use crate::status::Status;
-use must_base::{NameText, Sink, Trace};
+use must_base::{Sink, Trace};
 use must_find::{Findings, RuleSet};
 use must_report::{OutFault, count_shown, write_csv, write_text};
-use must_tree::{Plan, RunFault, Sends, analyse_serial};
+use must_settings::RulesFault;
+use must_tree::RunFault;
+use must_words::CheckWords;
 use std::alloc::Global;
 
-/// The plan where no file of settings says another.
-fn usual_plan() -> Plan {
-    Plan {
-        fan_in: 8,
-        sends: Sends::Strict,
-        rules: RuleSet::usual(),
-    }
-}
-
-/// Binds the files, and reads them one after the other.
-fn read_run<T: Trace>(
+/// Binds the files of a check, and reads its rules file and then its streams.
+fn read_check<T: Trace>(
     alloc: Global,
-    files: &[NameText],
+    words: &CheckWords,
     trace: &mut T,
-) -> Result<Findings, RunFault>
-    requires { (1 ≤ length files.now) × (length files.now ≤ MOST_RANKS) }
-    ensures analyses { Analyses (map (T.files trace.old) files.now) (map T.Src.shows (T.bound trace.new)) result }
-    ensures names { result ≢ Err RunFault.NoMemory → T.names trace.new ≡ files.now }
-    ensures tied { result ≢ Err RunFault.NoMemory
-        → AreTied (map (T.files trace.old) files.now) (map T.Src.shows (T.bound trace.new)) }
+) -> Result<Analysed, CheckFault>
+    requires short { (1 ≤ length words.now.files.now) × (length words.now.files.now ≤ MOST_RANKS) }
+    ensures reads { ReadsCheck (length words.now.files.now) (map (T.files trace.old) (names_of (check_asked words.now))) (map T.Src.shows (T.bound trace.new)) result }
+    ensures names { IsEnough result → T.names trace.new ≡ names_of (check_asked words.now) }
+    ensures tied { IsEnough result
+        → TiedCheck (length words.now.files.now) (map (T.files trace.old) (names_of (check_asked words.now))) (map T.Src.shows (T.bound trace.new)) }
 {
-    if bind_files(alloc, files, trace).is_err() {
-        return Err(RunFault::NoMemory);
+    if bind_check(alloc, words, trace).is_err() {
+        return Err(CheckFault::Run(RunFault::NoMemory));
     }
     let parts = trace.parts();
-    analyse_serial(alloc, parts, &usual_plan())
+    read_parts(alloc, &words.options, parts, words.files.len())
 }
 
 /// Puts the report of some findings, as CSV or as text.
@@ -84,7 +77,7 @@ fn put_report<O: Sink>(
     }
 }
 
-/// Checks the run whose streams are in these files.
+/// Checks the run whose streams are in the files.
 pub fn check<T: Trace, O: Sink, E: Sink>(
     alloc: Global,
     words: &CheckWords,
@@ -92,28 +85,47 @@ pub fn check<T: Trace, O: Sink, E: Sink>(
     out: &mut O,
     err: &mut E,
 ) -> Status
-    requires { (1 ≤ length words.now.files.now) × (length words.now.files.now ≤ MOST_RANKS) }
-    ensures answers { CheckAnswers (record { csv = words.now.csv; rules = usual_severities })
+    requires short { (1 ≤ length words.now.files.now) × (length words.now.files.now ≤ MOST_RANKS) }
+    ensures answers { Answers (check_asked words.now)
+        (rules_met (T.files trace.old) (map T.Src.shows (T.bound trace.new)) (check_asked words.now))
         (outside
         (map (T.files trace.old) words.now.files.now)
-        (map T.Src.shows (T.bound trace.new))
+        (take (length words.now.files.now) (map T.Src.shows (T.bound trace.new)))
         (output (O.shows out.old) (O.shows out.new)))
         (output (E.shows err.old) (E.shows err.new))
         result }
-    ensures names { result ≢ Status.NoMemory → T.names trace.new ≡ words.now.files.now }
+    ensures names { result ≢ Status.NoMemory → T.names trace.new ≡ names_of (check_asked words.now) }
     ensures tied { result ≢ Status.NoMemory
-        → AreTied (map (T.files trace.old) words.now.files.now) (map T.Src.shows (T.bound trace.new)) }
+        → TiedCheck (length words.now.files.now) (map (T.files trace.old) (names_of (check_asked words.now))) (map T.Src.shows (T.bound trace.new)) }
 {
-    match read_run(alloc, words.files, trace) {
-        Err(RunFault::NoMemory) => {
+    match read_check(alloc, words, trace) {
+        Err(CheckFault::Rules(RulesFault::Read)) => {
+            put_rules_fault(err);
+            Status::Outside
+        }
+        Err(CheckFault::Rules(RulesFault::Refused)) => {
+            put_settings(err);
+            Status::Settings
+        }
+        Err(CheckFault::Rules(RulesFault::NoMemory)) => {
             put_memory(err);
             Status::NoMemory
         }
-        Err(RunFault::Stream { rank, fault }) => {
+        Err(CheckFault::Run(RunFault::NoMemory)) => {
+            put_memory(err);
+            Status::NoMemory
+        }
+        Err(CheckFault::Run(RunFault::Stream { rank, fault })) => {
             put_rank_fault(err, rank, fault);
             Status::of_fault(fault)
         }
-        Ok(findings) => match put_report(alloc, words.csv, &findings, &RuleSet::usual(), out) {
+        Ok(analysed) => match put_report(
+            alloc,
+            words.options.csv,
+            &analysed.findings,
+            &analysed.rules,
+            out,
+        ) {
             Ok(true) => Status::Found,
             Ok(false) => Status::Clean,
             Err(OutFault::Write) => {

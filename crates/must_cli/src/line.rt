@@ -2,7 +2,7 @@
 
 ghost use Rattle.std.specs.Prelude.{◌≡◌, ◌≤◌, length};
 ghost use Rattle.must_base.specs.Views.{PutsSome};
-ghost use Rattle.must_cli.specs.Lines.{rank_name, place_line, read_line, fault_line, rank_line, stream_line, usage_line, write_line, memory_line};
+ghost use Rattle.must_cli.specs.Lines.{rank_name, place_line, read_line, fault_line, rank_line, stream_line, usage_line, write_line, memory_line, settings_line, rules_line};
 
 use arrayvec::ArrayString;
 use itoa::Buffer;
@@ -100,6 +100,20 @@ pub fn put_usage<E: Sink>(err: &mut E)
     ensures { PutsSome (E.shows err.old) (E.shows err.new) usage_line }
 {
     put_line(err, "usage: must_cli check|dump|drill\n");
+}
+
+/// The line for a rules file that couldn't be read.
+pub fn put_rules_fault<E: Sink>(err: &mut E)
+    ensures { PutsSome (E.shows err.old) (E.shows err.new) rules_line }
+{
+    let line = read_text("rules file");
+    put_line(err, line.as_str());
+}
+
+pub fn put_settings<E: Sink>(err: &mut E)
+    ensures { PutsSome (E.shows err.old) (E.shows err.new) settings_line }
+{
+    put_line(err, "rules file refused\n");
 }
 
 pub fn put_write<E: Sink>(err: &mut E)

@@ -10,9 +10,9 @@ ghost use Rattle.must_cli.specs.declared.WordsFault.TheVariants.{NoMemory as Out
 
 mod bind;
 mod check;
-mod command;
 mod dump;
 mod line;
+mod parts;
 mod run;
 mod status;
 #[cfg(test)]

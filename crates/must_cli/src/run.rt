@@ -4,11 +4,11 @@ ghost use Rattle.std.specs.Prelude.{◌≡◌, map};
 ghost use Rattle.must_cli.specs.Promises.{Promises, world};
 
 use crate::check::check;
-use crate::command::{CommandWords, command_words};
 use crate::dump::dump;
 use crate::line::put_usage;
 use crate::status::Status;
 use must_base::{Gate, NameText, Sink, Trace};
+use must_words::{CommandWords, command_words};
 use std::alloc::Global;
 
 /// Does what the words say, on one thread. It always returns.

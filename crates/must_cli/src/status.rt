@@ -22,6 +22,8 @@ pub enum Status {
     Bound = 5,
     /// There was no memory.
     NoMemory = 6,
+    /// The rules file has no settings.
+    Settings = 7,
 }
 
 impl Status {

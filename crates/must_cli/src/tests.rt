@@ -3,6 +3,7 @@
 ghost use Rattle.std.specs.Prelude.{◌<◌, All, OnOk, IfOk};
 
 mod outputs;
+mod settings;
 
 use crate::run::{run, serial_command};
 use crate::status::Status;

@@ -1,5 +1,5 @@
 use Rattle.std.proofs.Common.{map, sym}
-use Rattle.must_cli.specs.Asked.{check_asked}
+use Rattle.must_words.specs.Asked.{check_asked}
 use Rattle.must_cli.specs.Promises.{world}
 use Rattle.must_cli.proofs.Promised.{promises_of_check, promises_of_dump}
 use Rattle.must_cli.proofs.run.serial_command.Goals as goal
