@@ -1,4 +1,6 @@
 pub mod Put
-pub mod Shown
 pub mod Binding
+pub mod PartLists
+pub mod Checked
+pub mod Dumped
 pub mod Promised

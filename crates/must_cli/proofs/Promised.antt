@@ -1,152 +1,93 @@
--- The promises of the program, from what the check of its files answers.
-use Rattle.std.proofs.Common.{◌≡◌, ℕ, List, length, map, Option, Some, None, refl, sym, ap, subst, ◌∙◌, inl, inr, arith}
+-- The promises of the program, from what its commands answer.
+use Rattle.std.proofs.Common.{◌≡◌, ℕ, List, [], ◌∷◌, length, take, map, Option, Some, None, sym, subst, ◌∙◌}
 use Rattle.std.specs.Prelude.{◌≢◌}
-use Rattle.std.proofs.lemmas.Bool.{cases_order}
-use Rattle.std.proofs.lemmas.List.{length-map}
-use Rattle.must_call.specs.declared.call.Call.{Call}
-use Rattle.must_format.specs.declared.fault.StreamFault.{StreamFault}
-use Rattle.must_format.specs.declared.fault.StreamFault.TheVariants as fault
-use Rattle.must_rules.specs.LimitLaws.{refused_is_one, accepted_or_refused}
-use Rattle.must_rules.specs.Streams.{Accepted, Records}
+use Rattle.must_base.specs.Views.{SourceView}
+use Rattle.must_tree.specs.Told.{AreTied}
 use Rattle.must_cli.specs.declared.status.Status.{Status}
 use Rattle.must_cli.specs.declared.status.Status.TheVariants as status
-use Rattle.must_cli.specs.Command.{Check, command}
-use Rattle.must_base.specs.Views.{SourceView}
-use Rattle.must_tree.specs.Told.{told_at, AreTied}
-use Rattle.must_tree.specs.ToldLaws.{told_within, told_of, stream_at}
-use Rattle.must_tree.specs.Reading.{IsAccepted, IsRefused, StopsAt}
+use Rattle.must_words.specs.Command.{Check, Command, Checks, Dumps, command}
 use Rattle.must_cli.specs.Outside.{Output, Outside}
-use Rattle.must_cli.specs.Promises.{World, met, err_of, Promises, Answers, IsSuccess, IsRefusal, is_found, status_for, IsKnownAccepted, IsKnownRefused, WholeReport, RefusedStream, OutsideFault, WantOfMemory, RefusesLowest, ReportsComplete}
+use Rattle.must_cli.specs.Settled.{RulesFile, AreTiedRules, names_of, rules_met}
+use Rattle.must_cli.specs.Parts.{TiedCheck}
+use Rattle.must_cli.proofs.PartLists.{files_told, rules_told}
+use Rattle.must_cli.specs.CheckPromises.{Answers, WantOfMemory}
+use Rattle.must_cli.specs.DumpPromises.{single, DumpAnswers}
+use Rattle.must_cli.specs.Promises.{World, out_of, err_of, met, IsBoundCheck, RefusedWords, Checked, DumpedFile, Promises}
+use Rattle.must_cli.proofs.Checked.{check_promises, check_memory, check_usage}
+use Rattle.must_cli.proofs.Dumped.{dump_promises}
 
-not_both : (told : List (Option (List ℕ))) (rank : ℕ) (f : StreamFault) → IsAccepted told rank → IsKnownRefused told rank f → ⊥
-not_both told rank f accepted refused =
-    let a = accepted refused.0 refused.1 in
-    accepted_or_refused rank (length told) refused.0 a.0 f a.1 refused.2
+-- the bytes of a file by its name, where they are told
+abbrev Told : Type 0
+Told = List ℕ → Option (List ℕ)
 
--- ---- a refusal
+-- ---- commands apart
 
-is_refusal : (told : List (Option (List ℕ))) (parts : List SourceView) (rank : ℕ) (f : StreamFault) → IsRefusal (status_for f) → StopsAt told parts rank f → IsRefused told rank f
-is_refusal told parts rank (fault.Malformed at c) is stops = stops
-is_refusal told parts rank (fault.Bound at l) is stops = stops
-is_refusal told parts rank fault.Read is stops = absurd is
-is_refusal told parts rank fault.NoMemory is stops = absurd is
+same_check : (a b : Check) → Some (Checks a) ≡ Some (Checks b) → a ≡ b
+same_check a b e = cc
 
-refused_there : (o : Outside) (err : Output) (s : Status) → IsRefusal s → (a : RefusedStream o err s) → IsRefused o.told a.rank a.fault
-refused_there o err s is a = is_refusal o.told o.parts a.rank a.fault (subst (λ (t : Status). IsRefusal t) a.answer_is is) a.stops.stops
+same_file : (a b : List ℕ) → Some (Dumps a) ≡ Some (Dumps b) → a ≡ b
+same_file a b e = cc
 
-lowest_refused : (o : Outside) (err : Output) (s : Status) → IsRefusal s → RefusedStream o err s → RefusesLowest o s
-lowest_refused o err s is a = λ rank f lower refused above.
-    let there = refused_there o err s is a in
-    elim (cases_order a.rank rank) [
-      | inl same ↦
-          let here = subst (λ (r : ℕ). IsRefused o.told r a.fault) same there in
-          inl (a.answer_is ∙ ap status_for (refused_is_one rank (length o.told) refused.0 a.fault f (here refused.0 refused.1) refused.2))
-      | inr (inl less) ↦
-          let known = lower a.rank less in
-          absurd (not_both o.told a.rank a.fault (λ bytes e. known_at o.told a.rank bytes known e) (known.0, known.1, there known.0 known.1))
-      | inr (inr more) ↦ absurd (not_both o.told rank f (a.stops.lower rank more) refused)
-    ]
-  where
-    some_bytes : (b c : List ℕ) → Some b ≡ Some c → b ≡ c
-    some_bytes b c e = cc
+no_dump : (a : Check) (b : List ℕ) → Some (Checks a) ≡ Some (Dumps b) → ⊥
+no_dump a b e = cc
 
-    known_at : (told : List (Option (List ℕ))) (rank : ℕ) (bytes : List ℕ) → IsKnownAccepted told rank → told_at told rank ≡ Some bytes → (calls : List Call) × Accepted rank (length told) bytes calls
-    known_at told rank bytes known e =
-        let same = some_bytes known.0 bytes (sym known.1 ∙ e) in
-        (known.2.0, subst (λ (b : List ℕ). Accepted rank (length told) b known.2.0) same known.2.1)
+no_command : (a : Command) → Some a ≡ None → ⊥
+no_command a e = cc
 
-no_refusal : (o : Outside) (err : Output) (s : Status) → IsRefusal s → RefusedStream o err s → (streams : List (List ℕ)) (run : Rattle.must_rules.specs.Run.Run) → o.told ≡ map Some streams → Records streams run → ⊥
-no_refusal o err s is a streams run told records =
-    let n : length o.told ≡ length streams = ap length told ∙ length-map streams Some in
-    let within = a.stops.within in
-    let here = stream_at streams a.rank (omega (arith, n, within)) in
-    let known : told_at o.told a.rank ≡ Some here.0 = ap (λ (os : List (Option (List ℕ))). told_at os a.rank) told ∙ told_of streams a.rank here.0 here.1 in
-    let r = records.each a.rank here.0 here.1 in
-    accepted_or_refused a.rank (length o.told) here.0 r.calls a.fault (subst (λ (m : ℕ). Accepted a.rank m here.0 r.calls) (sym n) r.accepted) (refused_there o err s is a here.0 known)
+-- a command isn't refused
+accepted : (words : List (List ℕ)) (out err : Output) (answer : Status) (c : Command) → command words ≡ Some c → answer ≢ status.Usage → RefusedWords words out err answer
+accepted words out err answer c is not = record {
+  exact = (λ e. absurd (not e), λ e. absurd (no_command c (sym is ∙ e)));
+  nothing = λ e. absurd (not e);
+  line = λ e. absurd (not e);
+}
 
--- ---- by the status
+-- ---- a check
 
-whole_from : (o : Outside) (err : Output) (s : Status) → Answers o err s → IsSuccess s → WholeReport o err (is_found s)
-whole_from o err status.Clean a is = a
-whole_from o err status.Found a is = a
-whole_from o err status.Usage a is = absurd is
-whole_from o err status.Malformed a is = absurd is
-whole_from o err status.Outside a is = absurd is
-whole_from o err status.Bound a is = absurd is
-whole_from o err status.NoMemory a is = absurd is
+bound_check : (told : Told) (check : Check) (after : World) → after.names ≡ names_of check → TiedCheck (length check.files) (map told (names_of check)) after.parts → IsBoundCheck told check after
+bound_check told check after names tied = record {
+  names = names;
+  streams = subst (λ (t : List (Option (List ℕ))). AreTied t (take (length check.files) after.parts)) (files_told told check) tied.streams;
+  rules = subst (λ (f : Option RulesFile). AreTiedRules f) (rules_told told check after.parts) tied.rules;
+}
 
-refused_from : (o : Outside) (err : Output) (s : Status) → Answers o err s → IsRefusal s → RefusedStream o err s
-refused_from o err status.Clean a is = absurd is
-refused_from o err status.Found a is = absurd is
-refused_from o err status.Usage a is = absurd is
-refused_from o err status.Malformed a is = a
-refused_from o err status.Outside a is = absurd is
-refused_from o err status.Bound a is = a
-refused_from o err status.NoMemory a is = absurd is
-
-reported : (o : Outside) (err : Output) (found : Rattle.std.specs.Prelude.Bool) (s : Status) → WholeReport o err found → RefusesLowest o s
-reported o err found s a = λ rank f lower refused above.
-    absurd (not_both o.told rank f (a.reads.accepted rank (told_within o.told rank refused.0 refused.1)) refused)
-
-refuses_from : (o : Outside) (err : Output) (s : Status) → Answers o err s → RefusesLowest o s
-refuses_from o err status.Clean a = reported o err _ status.Clean a
-refuses_from o err status.Found a = reported o err _ status.Found a
-refuses_from o err status.Usage a = absurd a
-refuses_from o err status.Malformed a = lowest_refused o err status.Malformed tt a
-refuses_from o err status.Outside (inl a) = λ rank f lower refused above.
-    let part = a.stops.stops in
-    absurd (not_both o.told rank f (a.stops.lower rank (above a.rank part.0 part.1 part.2)) refused)
-refuses_from o err status.Outside (inr a) = λ rank f lower refused above.
-    absurd (not_both o.told rank f (a.reads.accepted rank (told_within o.told rank refused.0 refused.1)) refused)
-refuses_from o err status.Bound a = lowest_refused o err status.Bound tt a
-refuses_from o err status.NoMemory a = λ rank f lower refused above. inr refl
-
-reports_from : (o : Outside) (err : Output) (s : Status) → Answers o err s → ReportsComplete o s
-reports_from o err status.Clean a = λ streams run told records none no. inl tt
-reports_from o err status.Found a = λ streams run told records none no. inl tt
-reports_from o err status.Usage a = absurd a
-reports_from o err status.Malformed a = λ streams run told records none no. absurd (no_refusal o err status.Malformed tt a streams run told records)
-reports_from o err status.Outside (inl a) = λ streams run told records none no. let part = a.stops.stops in absurd (none a.rank part.0 part.1 part.2)
-reports_from o err status.Outside (inr a) = λ streams run told records none no. absurd (no a.cuts.rose)
-reports_from o err status.Bound a = λ streams run told records none no. absurd (no_refusal o err status.Bound tt a streams run told records)
-reports_from o err status.NoMemory a = λ streams run told records none no. inr refl
-
--- ---- all promises
-
-same_files : (a b : List (List ℕ)) → Some (Check a) ≡ Some (Check b) → a ≡ b
-same_files a b e = cc
-
-none_files : (a : List (List ℕ)) → Some (Check a) ≡ None → ⊥
-none_files a e = cc
-
-outside_from : (o : Outside) (err : Output) (s : Status) → Answers o err s → s ≡ status.Outside → OutsideFault o err
-outside_from o err s a e = subst (λ (t : Status). Answers o err t) e a
-
-memory_from : (o : Outside) (err : Output) (s : Status) → Answers o err s → s ≡ status.NoMemory → WantOfMemory o.out err
-memory_from o err s a e = subst (λ (t : Status). Answers o err t) e a
-
-usage_from : (o : Outside) (err : Output) (s : Status) → Answers o err s → s ≡ status.Usage → ⊥
-usage_from o err s a e = subst (λ (t : Status). Answers o err t) e a
-
-pub promises_from : (words files : List (List ℕ)) (told : List (List ℕ) → List (Option (List ℕ))) (before after : World) (answer : Status)
-    → command words ≡ Some (Check files) → Answers (met told before after files) (err_of before after) answer → (answer ≢ status.NoMemory → after.names ≡ files)
-    → (answer ≢ status.NoMemory → AreTied (told files) after.parts) → Promises words told before after answer
-promises_from words files told before after answer is a names tied =
-    let o : List (List ℕ) → Outside = met told before after in
+pub promises_of_check : (words : List (List ℕ)) (check : Check) (told : Told) (before after : World) (answer : Status)
+    → command words ≡ Some (Checks check) → Answers check (rules_met told after.parts check) (met told before after check) (err_of before after) answer
+    → (answer ≢ status.NoMemory → after.names ≡ names_of check)
+    → (answer ≢ status.NoMemory → TiedCheck (length check.files) (map told (names_of check)) after.parts) → Promises words told before after answer
+promises_of_check words check told before after answer is a names tied =
+    let file : Option RulesFile = rules_met told after.parts check in
+    let o : Outside = met told before after check in
     let err = err_of before after in
-    let same : (others : List (List ℕ)) → command words ≡ Some (Check others) → files ≡ others = λ others e. same_files files others (sym is ∙ e) in
-    let at : (others : List (List ℕ)) → command words ≡ Some (Check others) → Answers (o others) err answer = λ others e.
-    subst (λ (fs : List (List ℕ)). Answers (o fs) err answer) (same others e) a in
+    let here : Checked told before after answer check = record {
+      files = λ enough. bound_check told check after (names enough) (tied enough);
+      answers = check_promises check file o err answer a;
+    } in
     record {
-      refused_words = record {
-        exact = (λ e. absurd (usage_from (o files) err answer a e), λ e. absurd (none_files files (sym is ∙ e)));
-        nothing = λ e. absurd (usage_from (o files) err answer a e);
-        line = λ e. absurd (usage_from (o files) err answer a e);
-      };
-      files = λ others e enough. record { names = names enough ∙ same others e; parts = subst (λ (fs : List (List ℕ)). AreTied (told fs) after.parts) (same others e) (tied enough) };
-      whole_report = λ others e. whole_from (o others) err answer (at others e);
-      refused_stream = λ others e. refused_from (o others) err answer (at others e);
-      outside_fault = λ others e. outside_from (o others) err answer (at others e);
-      want_of_memory = memory_from (o files) err answer a;
-      completeness = λ others e. record { refuses = refuses_from (o others) err answer (at others e); reports = reports_from (o others) err answer (at others e) };
+      refused_words = accepted words (out_of before after) err answer (Checks check) is (λ e. check_usage check file o err (subst (λ (t : Status). Answers check file o err t) e a));
+      want_of_memory = λ e. check_memory check file o err (subst (λ (t : Status). Answers check file o err t) e a);
+      check = λ other e. subst (λ (c : Check). Checked told before after answer c) (same_check check other (sym is ∙ e)) here;
+      dump = λ file e. absurd (no_dump check file (sym is ∙ e));
+    }
+
+-- ---- a dump
+
+pub promises_of_dump : (words : List (List ℕ)) (file : List ℕ) (told : Told) (before after : World) (answer : Status)
+    → command words ≡ Some (Dumps file)
+    → (answer ≢ status.NoMemory → (part : SourceView) → after.parts ≡ part ∷ []
+    → DumpAnswers (single (told file) part (out_of before after)) (err_of before after) answer)
+    → (answer ≡ status.NoMemory → WantOfMemory (out_of before after) (err_of before after))
+    → answer ≢ status.Usage
+    → (answer ≢ status.NoMemory → after.names ≡ file ∷ [])
+    → (answer ≢ status.NoMemory → AreTied (told file ∷ []) after.parts) → Promises words told before after answer
+promises_of_dump words file told before after answer is a memory not names tied =
+    let here : DumpedFile told before after answer file = record {
+      files = λ enough. record { names = names enough; parts = tied enough };
+      answers = λ enough part parts_are. dump_promises (single (told file) part (out_of before after)) (err_of before after) answer (a enough part parts_are);
+    } in
+    record {
+      refused_words = accepted words (out_of before after) (err_of before after) answer (Dumps file) is not;
+      want_of_memory = memory;
+      check = λ check e. absurd (no_dump check file (sym e ∙ is));
+      dump = λ other e. subst (λ (f : List ℕ). DumpedFile told before after answer f) (same_file file other (sym is ∙ e)) here;
     }

@@ -1,5 +1,10 @@
-pub mod Numbers
-pub mod Command
+pub mod Statuses
 pub mod Lines
 pub mod Outside
+pub mod Writing
+pub mod Settled
+pub mod Parts
+pub mod CheckPromises
+pub mod DumpPromises
+pub mod Dumping
 pub mod Promises

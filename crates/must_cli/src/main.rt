@@ -8,9 +8,11 @@
 ghost use Rattle.std.specs.Prelude.{◌≡◌};
 ghost use Rattle.must_cli.specs.declared.WordsFault.TheVariants.{NoMemory as OutOfMemory};
 
-mod command;
+mod bind;
+mod check;
+mod dump;
 mod line;
-mod report;
+mod parts;
 mod run;
 mod status;
 #[cfg(test)]

@@ -2,6 +2,9 @@
 
 ghost use Rattle.std.specs.Prelude.{◌<◌, All, OnOk, IfOk};
 
+mod outputs;
+mod settings;
+
 use crate::run::{run, serial_command};
 use crate::status::Status;
 use must_base::{MemFile, MemSink, MemTrace, NameText, OpenGate};

@@ -1,4 +1,0 @@
-use Rattle.must_cli.proofs.run.source_law.Goals as goal
-
-pub returns : goal.returns
-returns g c = g.met.S.Source.shows_is
