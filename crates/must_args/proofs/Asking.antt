@@ -1,14 +1,14 @@
 -- One field, one handle or one request more.
-use Rattle.std.proofs.Common.{◌≡◌, ℕ, suc, ◌+◌, ◌≤◌, Bool, true, false, ◌||◌, ◌&&◌, List, [], ◌∷◌, ◌++◌, map, length, take, Option, Some, None, refl, sym, ap, ◌∙◌, arith, nat_eq, append_assoc, length-append, flat_map}
+use Rattle.std.proofs.Common.{◌≡◌, ℕ, suc, ◌+◌, Bool, true, false, ◌||◌, ◌&&◌, List, [], ◌∷◌, ◌++◌, map, length, take, refl, sym, ap, ◌∙◌, arith, nat_eq, append_assoc, length-append, flat_map}
 use Rattle.std.specs.Prelude.{if◌then◌else◌}
 use Rattle.std.specs.Set.{is_member}
-use Rattle.std.proofs.lemmas.List.{append-nil, take_all}
+use Rattle.std.proofs.lemmas.List.{append-nil}
 use Rattle.must_call.specs.declared.kind.Kind.{Kind}
 use Rattle.must_call.specs.declared.field.Field.{Field}
-use Rattle.must_call.specs.Values.{Value, Typed}
+use Rattle.must_call.specs.Values.{Typed}
 use Rattle.must_call.specs.Handles.{ClassedHandle, typed_handles}
 use Rattle.must_rules.specs.Facts.{Facts}
-use Rattle.must_rules.specs.Significant.{or_else, first_told, side, is_send}
+use Rattle.must_rules.specs.Significant.{side, is_send}
 use Rattle.must_rules.specs.Breaches.{Breach, sends, part_of, asked_from}
 use Rattle.must_rules.specs.ArgumentHandles.{StartOf, wrong_handle, wrong_handles, active, active_from}
 use Rattle.must_args.specs.declared.setting.Setting.{Setting}

@@ -1,23 +1,23 @@
 -- The steps of the loops of this crate, over plain values.
-use Rattle.std.proofs.Common.{◌≡◌, ℕ, ◌+◌, ◌<◌, ◌≤◌, Bool, ◌||◌, ◌&&◌, List, [], ◌∷◌, ◌++◌, map, length, take, drop, get_or, Option, refl, sym, ap, subst, ◌∙◌, arith, nat_eq, flat_map, length-append, zero-add}
+use Rattle.std.proofs.Common.{◌≡◌, ℕ, ◌+◌, ◌<◌, ◌≤◌, Bool, ◌||◌, ◌&&◌, List, [], ◌∷◌, ◌++◌, map, length, take, drop, get_or, refl, sym, ap, subst, ◌∙◌, arith, nat_eq, flat_map, length-append, zero-add}
 use Rattle.std.specs.Prelude.{if◌then◌else◌}
 use Rattle.std.specs.Set.{is_member}
-use Rattle.std.proofs.lemmas.List.{take_more, length-take-le, length-map, map-append, append-nil, take-append-drop}
+use Rattle.std.proofs.lemmas.List.{length-take-le, length-map, map-append, append-nil, take-append-drop}
 use Rattle.std.proofs.lemmas.Grind.{flat_map-append}
 use Rattle.must_call.specs.declared.kind.Kind.{Kind}
 use Rattle.must_call.specs.declared.place.Place.{Place}
 use Rattle.must_call.specs.declared.field.Field.{Field}
-use Rattle.must_call.specs.Values.{Value, Typed}
+use Rattle.must_call.specs.Values.{Typed}
 use Rattle.must_call.specs.Handles.{ClassedHandle, typed_handles}
 use Rattle.must_find.specs.declared.finding.Finding.{Finding}
 use Rattle.must_rules.specs.Facts.{Facts}
-use Rattle.must_rules.specs.Significant.{or_else, first_told, side, is_send}
+use Rattle.must_rules.specs.Significant.{side, is_send}
 use Rattle.must_rules.specs.Breaches.{Breach, AddsBreaches, sends, asked_from}
 use Rattle.must_rules.specs.ArgumentHandles.{StartOf, wrong_handle, wrong_handles, active, active_from}
 use Rattle.must_args.specs.declared.setting.Setting.{Setting}
 use Rattle.must_args.specs.Settings.{usable_from}
 use Rattle.must_args.proofs.Added.{adds_both, adds_as}
-use Rattle.must_args.specs.AskingLaws.{front_more, seen_more, told_more}
+use Rattle.must_args.specs.AskingLaws.{front_more, seen_more}
 use Rattle.must_args.proofs.Asking.{sends_more, asked_more, handles_more, active_more, usable_more, usable_here, handles_in}
 
 seen_length : {A B : Type 0} (f : A → B) (xs : List A) (j : ℕ) → j < length xs → length (map f (take j xs)) ≡ j

@@ -8,6 +8,7 @@ use Rattle.must_call.specs.declared.class.Class.TheVariants.{Comm, Group, Dataty
 use Rattle.must_call.specs.declared.life.Life.TheVariants.{Never, Predefined}
 use Rattle.must_group.specs.Groups.{below}
 use Rattle.must_rules.specs.Rank.{Rank}
+use Rattle.must_rules.specs.Limits.{most_weight}
 use Rattle.must_rules.specs.Lives.{is_predefined, life}
 use Rattle.must_rules.specs.LifeLaws.{life_first, made_count_first}
 use Rattle.must_rules.specs.Communicators.{there, collectives, predefined_name, name_of}
@@ -16,8 +17,9 @@ use Rattle.must_handle.specs.Slots.{Stands}
 use Rattle.must_derived.specs.Standing as derived
 use Rattle.must_local.specs.declared.handles.Handles.{Handles}
 use Rattle.must_local.specs.declared.known.Known.{Known}
+use Rattle.must_items.specs.CollectiveLists.{commute_of}
 use Rattle.must_local.specs.Counted.{counted}
-use Rattle.must_local.specs.Objects.{place_of, slot_in, comm_slot, comm_in, group_slot, group_in, counted_of, Remembers}
+use Rattle.must_local.specs.Objects.{place_of, slot_in, comm_slot, comm_in, group_slot, operation_slot, group_in, counted_of, Remembers}
 use Rattle.must_local.specs.HandlesKnown.{HandlesStand}
 use Rattle.must_local.specs.Bumps.{first_objects}
 
@@ -61,6 +63,12 @@ counted_first : (r : Rank) (h : ℕ) → counted_of r [] h ≡ option_map (count
 unfolding collectives name_of
 counted_first r h = refl
 
+operation_first : (rank size : ℕ) (o : Option ℕ) → operation_slot (slot_in (first_objects rank size) o) ≡ None
+operation_first rank size None = refl
+operation_first rank size (Some zero) = refl
+operation_first rank size (Some (suc zero)) = refl
+operation_first rank size (Some (suc (suc n))) = refl
+
 there_first : {X : Type 0} (class : Class) (h : ℕ) (x y : Option X) → (h < 64 → x ≡ y) → there (life [] class h) x ≡ there (life [] class h) y
 there_first class h x y same =
     elim (cases_lt h 64) [
@@ -70,12 +78,13 @@ there_first class h x y same =
     ]
 
 remembers_first : (r : Rank) → Remembers r (first_objects r.rank r.size) []
-unfolding group_of
+unfolding group_of commute_of
 remembers_first r = record {
   size = sym (ap (λ n. 2 + n) made_count_first);
   comms = λ h. there_first Comm h (comm_in (first_objects r.rank r.size) h) (counted_of r [] h) (λ low. comm_first r h low ∙ sym (counted_first r h));
   groups = λ h. there_first Group h (group_in (first_objects r.rank r.size) h) (cond (h == 1) (Some []) None) (λ low. ap (cond (h == 1) (Some [])) (group_first r.rank r.size (place_of h)));
+  operations = λ h. operation_first r.rank r.size (place_of h);
 }
 
-pub handles_first : (r : Rank) (h : Handles) → h.rank ≡ r.rank → h.tag_ub ≡ r.tag_ub → Stands (clear_behind r) h.lives [] → derived.Stands (clear_behind r) h.types [] → h.objects ≡ first_objects r.rank r.size → HandlesStand r h []
-handles_first r h rank tag lives types objects = record { rank_is = rank; tag_is = tag; lives = lives; types = types; objects = subst (λ (slots : List Known). Remembers r slots []) (sym objects) (remembers_first r) }
+pub handles_first : (r : Rank) (h : Handles) → h.rank ≡ r.rank → h.tag_ub ≡ r.tag_ub → Stands (clear_behind r) h.lives [] → derived.Stands (clear_behind r) h.types [] → h.types.table.weight_limit ≡ most_weight r.size → h.objects ≡ first_objects r.rank r.size → HandlesStand r h []
+handles_first r h rank tag lives types weight objects = record { rank_is = rank; tag_is = tag; lives = lives; types = types; weight_is = weight; objects = subst (λ (slots : List Known). Remembers r slots []) (sym objects) (remembers_first r) }

@@ -14,7 +14,7 @@ use Rattle.must_call.specs.declared.body.Body.{Body}
 use Rattle.must_call.specs.Handles.{ClassedHandle}
 use Rattle.must_rules.specs.Making.{made_by}
 use Rattle.must_format.specs.declared.cause.Limit.{Limit}
-use Rattle.must_rules.specs.Limits.{is_comm, parent_name, has_full_path, is_too_deep, path_limit, made_limit, or_limit, type_limit_at, limit_at}
+use Rattle.must_rules.specs.Limits.{is_comm, parent_name, has_full_path, is_too_deep, path_limit, most_weight, made_limit, or_limit, type_limit_at, limit_at}
 use Rattle.must_rules.specs.Types.{clear_type, type_of, types_weight}
 use Rattle.must_rules.specs.Rank.{Rank}
 use Rattle.must_rules.specs.Lives.{life, committed}
@@ -104,12 +104,12 @@ unfolding is_too_deep
 deep_is r h calls call s = deep_by r h calls call.body (made_by call) s
 
 -- no call reaches the limits of a path and of a type
-pub deep_alone : (r : Rank) (calls : List Call) (call : Call) → is_too_deep r calls call ≡ true → type_limit_at (clear_behind r) calls call ≡ None
+pub deep_alone : (r : Rank) (calls : List Call) (call : Call) → is_too_deep r calls call ≡ true → type_limit_at (most_weight r.size) (clear_behind r) calls call ≡ None
 unfolding is_too_deep type_limit_at
 deep_alone r calls call e = at (made_by call) e
   where
     at : (o : Option ClassedHandle) → (is_comm o && has_full_path (parent_name (usable_name r calls) (derived_of call.body))) ≡ true
-        → made_limit o (types_weight (clear_behind r) calls) (clear_type (clear_behind r calls call) (type_of (clear_behind r) calls) call.body) ≡ None
+        → made_limit o (most_weight r.size) (types_weight (clear_behind r) calls) (clear_type (clear_behind r calls call) (type_of (clear_behind r) calls) call.body) ≡ None
     at None f = refl
     at (Some (Comm, n)) f = refl
     at (Some (Group, n)) f = refl
@@ -128,7 +128,7 @@ path_over r calls call k (walk_fault.TooWide at l) h =
 path_over r calls call k walk_fault.NoMemory h = tt
 
 -- what a type is refused by is the call's limit
-pub type_over : (r : Rank) (calls : List Call) (call : Call) (k : ℕ) (f : WalkFault) → IsLimitAt k (type_limit_at (clear_behind r) calls call) f → IsLimitAt k (limit_at r calls call) f
+pub type_over : (r : Rank) (calls : List Call) (call : Call) (k : ℕ) (f : WalkFault) → IsLimitAt k (type_limit_at (most_weight r.size) (clear_behind r) calls call) f → IsLimitAt k (limit_at r calls call) f
 type_over r calls call k (walk_fault.TooWide at l) h = (h.0, ap (λ (o : Option Limit). or_limit o (path_limit (is_too_deep r calls call))) h.1)
 type_over r calls call k walk_fault.NoMemory h = tt
 

@@ -4,10 +4,11 @@ use Rattle.std.specs.Prelude.{◌⊎◌}
 use Rattle.std.specs.Option.{option_map}
 use Rattle.std.proofs.lemmas.Bool.{le-leb, eq-eqb, eqb-true, ne_eqb}
 use Rattle.must_call.specs.declared.class.Class.{Class}
-use Rattle.must_call.specs.declared.class.Class.TheVariants.{Comm, Group}
+use Rattle.must_call.specs.declared.class.Class.TheVariants.{Comm, Group, Datatype, Operation, Request}
 use Rattle.must_call.specs.declared.life.Life.{Life}
 use Rattle.must_call.specs.declared.life.Life.TheVariants.{Never, Live, Freed, Predefined}
 use Rattle.must_call.specs.declared.call.Call.{Call}
+use Rattle.must_call.specs.declared.body.Body.{Body}
 use Rattle.must_call.specs.Handles.{ClassedHandle}
 use Rattle.must_group.specs.Names.{Name}
 use Rattle.must_rules.specs.Rank.{Rank}
@@ -26,13 +27,16 @@ use Rattle.must_handle.specs.declared.slot.Slot.{Slot}
 use Rattle.must_handle.specs.Slots as handle
 use Rattle.must_handle.specs.Slots.{life_in, state_in}
 use Rattle.must_handle.specs.Changes.{IsNext}
+use Rattle.must_items.specs.CollectiveItems.{commute_made}
+use Rattle.must_items.specs.CollectiveLists.{commute_of}
+use Rattle.must_items.specs.CommuteLaws.{commute_more}
 use Rattle.must_local.specs.declared.handles.Handles.{Handles}
 use Rattle.must_local.specs.declared.known.Known.{Known}
 use Rattle.must_local.specs.declared.known.Known.TheVariants as known
 use Rattle.must_local.specs.Counted.{Counted, counted, one_more}
-use Rattle.must_local.specs.Objects.{slot_of, comm_slot, comm_in, group_slot, group_in, counted_of, Remembers}
+use Rattle.must_local.specs.Objects.{slot_of, comm_slot, comm_in, group_slot, group_in, operation_slot, operation_in, counted_of, Remembers}
 use Rattle.must_local.specs.Bumps.{bumped}
-use Rattle.must_local.specs.HandlesKnown.{facts_in, HandlesStand, derived_from, comm_made, known_comm, known_group, known_made, counts_on, Counts, Grows}
+use Rattle.must_local.specs.HandlesKnown.{facts_in, HandlesStand, derived_from, comm_made, known_comm, known_group, known_operation, known_made, counts_on, Counts, Grows}
 use Rattle.must_local.proofs.Tables.{slot_new, slot_past, slot_other}
 use Rattle.must_local.proofs.Facing.{usable_is, facts_are}
 use Rattle.must_local.proofs.Beginning.{made_number}
@@ -129,6 +133,7 @@ slot_comm true None = refl
 slot_comm true (Some known.Nothing) = refl
 slot_comm true (Some (known.Comm comm)) = refl
 slot_comm true (Some (known.Group group)) = refl
+slot_comm true (Some (known.Operation commute)) = refl
 slot_comm false o = refl
 
 counted_more : (t : Bool) (c : ℕ) (n : Option Name) → option_map (counted (cond t (suc c) c)) n ≡ cond t (option_map one_more (option_map (counted c) n)) (option_map (counted c) n)
@@ -189,6 +194,7 @@ slot_group true None = refl
 slot_group true (Some known.Nothing) = refl
 slot_group true (Some (known.Comm comm)) = refl
 slot_group true (Some (known.Group group)) = refl
+slot_group true (Some (known.Operation commute)) = refl
 slot_group false o = refl
 
 group_stays : (r : Rank) (calls : List Call) (call : Call) (old : Handles) (new : List Known) (h : ℕ) → Stays old call new h → group_in old.objects h ≡ group_of r calls h → group_in new h ≡ group_of r (calls ++ call ∷ []) h
@@ -210,6 +216,46 @@ group_comes r calls call old clear new h s is c named =
     ∙ ap (λ b. cond b (group_made (facts_in old) call.body) None) is
     ∙ ap (λ (f : Facts). sound_group f call.body) (facts_are r old calls s)
     ∙ sym (group_more r calls call h ∙ ap (λ b. cond b (sound_group (facts_of r calls) call.body) (group_of r calls h)) named)
+
+-- ---- operations
+
+slot_operation : (t : Bool) (o : Option Known) → operation_slot (cond t (option_map bumped o) o) ≡ operation_slot o
+slot_operation true None = refl
+slot_operation true (Some known.Nothing) = refl
+slot_operation true (Some (known.Comm comm)) = refl
+slot_operation true (Some (known.Group group)) = refl
+slot_operation true (Some (known.Operation commute)) = refl
+slot_operation false o = refl
+
+known_commute : (o : Option Bool) → operation_slot (Some (known_operation o)) ≡ o
+known_commute None = refl
+known_commute (Some commute) = refl
+
+no_operation : (o : Option Name) → operation_slot (Some (known_comm o)) ≡ None
+no_operation None = refl
+no_operation (Some n) = refl
+
+no_operation_group : (o : Option (List ℕ)) → operation_slot (Some (known_group o)) ≡ None
+no_operation_group None = refl
+no_operation_group (Some g) = refl
+
+-- what is known of a handle of another class is no operation
+operation_made : (old : Handles) (class : Class) (clear : Bool) (b : Body) → operation_slot (Some (known_made old class clear b)) ≡ cond (same_class class Operation) (commute_made b) None
+operation_made old Comm clear b = no_operation (comm_made old (derived_of b))
+operation_made old Group clear b = no_operation_group (cond clear (group_made (facts_in old) b) None)
+operation_made old Datatype clear b = refl
+operation_made old Operation clear b = known_commute (commute_made b)
+operation_made old Request clear b = refl
+
+operations_more : (calls : List Call) (call : Call) (old : Handles) (clear : Bool) (new : List Known) (h : ℕ) → Stays old call new h ⊎ Comes old clear call new calls h → operation_in old.objects h ≡ commute_of calls h
+    → operation_in new h ≡ commute_of (calls ++ call ∷ []) h
+operations_more calls call old clear new h (inl x) same =
+    ap operation_slot x.slot ∙ slot_operation (counts_on old call.body h) (slot_of old.objects h) ∙ same
+    ∙ sym (commute_more calls call h ∙ ap (λ b. cond b (commute_made call.body) (commute_of calls h)) (x.none Operation))
+operations_more calls call old clear new h (inr c) same =
+    let unmade : commute_of calls h ≡ None = sym same ∙ ap operation_slot c.before in
+    ap operation_slot c.slot ∙ operation_made old c.class clear call.body
+    ∙ sym (commute_more calls call h ∙ ap (λ b. cond b (commute_made call.body) (commute_of calls h)) (here_named Operation c.class h call c.made) ∙ ap (λ o. cond (same_class c.class Operation) (commute_made call.body) o) unmade)
 
 -- ---- one call more
 
@@ -245,4 +291,5 @@ remembers_more r calls call old clear mid new s next is counts grows =
           (kept_there (life calls Group h) (makes Group h call) (ends (is_kept calls Group h) Group h call) (length calls) (group_in old.objects h) (group_in new h) (group_of r calls h) (group_of r (calls ++ call ∷ []) h) (s.objects.groups h)
           (λ t same. elim (at h) [ inl x ↦ group_stays r calls call old new h x same | inr c ↦ never_there (life calls Group h) (c.never Group) t ])
           (λ never named. elim (at h) [ inl x ↦ stays_true Group h call (x.none Group) named | inr c ↦ group_comes r calls call old clear new h s is c named ]));
+      operations = λ h. operations_more calls call old clear new h (at h) (s.objects.operations h);
     }

@@ -46,8 +46,12 @@ use Rattle.must_local.specs.declared.fault.WalkFault.{WalkFault}
 use Rattle.must_local.proofs.Facing.{facts_are, breaches_are}
 use Rattle.must_entry.specs.declared.batch.Batch.{Batch}
 use Rattle.must_entry.specs.Entries.{rows_of}
+use Rattle.must_entry.specs.Entries as entries
+use Rattle.must_coll.specs.declared.item.WaveItem.{WaveItem}
+use Rattle.must_items.specs.CollectiveLists.{IsGivenBy, AreItemsOf}
+use Rattle.must_items.specs.ListLaws.{items_more}
 use Rattle.must_local.specs.Adding.{IsOfRule, FrameRows, ArgumentRows, OperationRows, ClassRows, LeakRows, LeakRowsAt, RowsAt, RowsAtEnd}
-use Rattle.must_local.specs.Walks.{WalkState, rank_by, Knows, Walks, GivesAll, IsMiddle, all_rows, RankTold}
+use Rattle.must_local.specs.Walks.{WalkState, rank_by, Knows, Walks, GivesAll, IsMiddle, all_rows, collectives, RankTold}
 
 -- ---- the tables
 
@@ -182,6 +186,7 @@ walks_first version w n i f r stands = record {
   knows = record { number = n; init = i; finalize = f; returned = r; handles = stands };
   once = tt;
   rows = λ g. (λ h. absurd h, λ is. absurd (here_none (rank_by version w.rank) g is));
+  waves = refl;
   middle = tt;
   within = within_none (rank_by version w.rank);
 }
@@ -189,6 +194,11 @@ walks_first version w n i f r stands = record {
 all_more : (given : List Batch) (batch : Batch) → all_rows (given ++ batch ∷ []) ≡ all_rows given ++ rows_of batch.entries
 all_more [] batch = append-nil (rows_of batch.entries)
 all_more (b ∷ given) batch = ap (λ (fs : List Finding). rows_of b.entries ++ fs) (all_more given batch) ∙ sym (append_assoc (rows_of b.entries) (all_rows given) (rows_of batch.entries))
+
+collectives_more : (given : List Batch) (batch : Batch) → collectives (given ++ batch ∷ []) ≡ collectives given ++ entries.calls batch.entries
+collectives_more [] batch = append-nil (entries.calls batch.entries)
+collectives_more (b ∷ given) batch =
+    ap (λ (l : List WaveItem). entries.calls b.entries ++ l) (collectives_more given batch) ∙ sym (append_assoc (entries.calls b.entries) (collectives given) (entries.calls batch.entries))
 
 all_push : {X : Type 0} (P : X → Type 0) (xs : List X) (x : X) → AllByRecursion P xs → P x → AllByRecursion P (xs ++ x ∷ [])
 all_push P [] x all p = (p, tt)
@@ -209,8 +219,8 @@ joined P Q R fs gs old new apart p q r = record {
 }
 
 pub walks_more : (version : ℕ) (w v : WalkState) (calls : List Call) (call : Call) (given : List Batch) (batch : Batch) (rows : List Finding) → Knows version v (calls ++ call ∷ []) → limit_at (rank_by version w.rank) calls call ≡ None → v.rank ≡ w.rank → RowsAt (rank_by version w.rank) calls call rows
-    → rows_of batch.entries ≡ rows → batch.rank ≡ (rank_by version w.rank).rank → batch.last ≡ false → Walks version w calls given → Walks version v (calls ++ call ∷ []) (given ++ batch ∷ [])
-walks_more version w v calls call given batch rows knows none same at are rank_is goes_on walks =
+    → rows_of batch.entries ≡ rows → IsGivenBy (rank_by version w.rank) calls call (entries.calls batch.entries) → batch.rank ≡ (rank_by version w.rank).rank → batch.last ≡ false → Walks version w calls given → Walks version v (calls ++ call ∷ []) (given ++ batch ∷ [])
+walks_more version w v calls call given batch rows knows none same at are wave rank_is goes_on walks =
     let r = rank_by version w.rank in
     let r_is : rank_by version v.rank ≡ r = ap (rank_by version) same in
     let new : Joins (IsBehind r calls call) (rows_of batch.entries) = subst (Joins (IsBehind r calls call)) (sym are) (record { once = rises_distinct by_all by_all_total rows at.rises; rows = at.exact }) in
@@ -222,6 +232,8 @@ walks_more version w v calls call given batch rows knows none same at are rank_i
       knows = knows;
       once = here.once;
       rows = here.rows;
+      waves = subst (λ (s : Rank). AreItemsOf s (calls ++ call ∷ []) (collectives (given ++ batch ∷ []))) (sym r_is)
+          (subst (AreItemsOf r (calls ++ call ∷ [])) (sym (collectives_more given batch)) (items_more r calls call (collectives given) (entries.calls batch.entries) walks.waves wave));
       middle = subst (λ (s : Rank). AllByRecursion (IsMiddle s.rank) (given ++ batch ∷ [])) (sym r_is) (all_push (IsMiddle r.rank) given batch walks.middle (record { rank_is = rank_is; goes_on = goes_on }));
       within = subst (λ (s : Rank). IsWithin s (calls ++ call ∷ [])) (sym r_is) (within_more r calls call walks.within none);
     }
@@ -325,11 +337,19 @@ end_seen version w x e calls z a none knows adds rises =
     })
 
 pub walks_end : (version : ℕ) (w : WalkState) (calls : List Call) (given : List Batch) (batch : Batch) (rows : List Finding) → RowsAtEnd (rank_by version w.rank) calls rows → rows_of batch.entries ≡ rows
-    → batch.rank ≡ (rank_by version w.rank).rank → batch.last ≡ true → Walks version w calls given → GivesAll (rank_by version w.rank) calls (given ++ batch ∷ [])
-walks_end version w calls given batch rows at are rank_is ends walks =
+    → entries.calls batch.entries ≡ [] → batch.rank ≡ (rank_by version w.rank).rank → batch.last ≡ true → Walks version w calls given → GivesAll (rank_by version w.rank) calls (given ++ batch ∷ [])
+walks_end version w calls given batch rows at are none rank_is ends walks =
     let r = rank_by version w.rank in
     let new : Joins (IsWhole r calls) (rows_of batch.entries) = subst (Joins (IsWhole r calls)) (sym are) (record { once = rises_distinct by_all by_all_total rows at.rises; rows = at.exact }) in
     let all = joined (IsHere r calls) (IsWhole r calls) (IsLocal r calls) (all_rows given) (rows_of batch.entries) (record { once = walks.once; rows = walks.rows }) new
     (here_whole r calls) (local_here r calls) (local_whole r calls) (local_cases r calls) in
     let here : Joins (IsLocal r calls) (all_rows (given ++ batch ∷ [])) = subst (Joins (IsLocal r calls)) (sym (all_more given batch)) all in
-    record { once = here.once; rows = here.rows; middle = given; last = batch; batches_are = refl; go_on = walks.middle; rank_is = rank_is; ends = ends }
+    let given_are : collectives (given ++ batch ∷ []) ≡ collectives given = collectives_more given batch ∙ ap (λ (l : List WaveItem). collectives given ++ l) none ∙ append-nil (collectives given) in
+    record { once = here.once; rows = here.rows; waves = subst (AreItemsOf r calls) (sym given_are) walks.waves; middle = given; last = batch; batches_are = refl; go_on = walks.middle; rank_is = rank_is; ends = ends }
+
+-- what a call gives to its wave, by the tables of a walk whose fields tell its state
+pub wave_seen : (version : ℕ) (w x : WalkState) → w ≡ x → (calls : List Call) (call : Call) (items : List WaveItem) → Knows version x calls
+    → ((r : Rank) (cs : List Call) → HandlesStand r w.handles cs → w.number ≡ length cs → IsGivenBy r cs call items) → IsGivenBy (rank_by version x.rank) calls call items
+wave_seen version w x e calls call items knows gives =
+    let k : Knows version w calls = subst (λ (v : WalkState). Knows version v calls) (sym e) knows in
+    subst (λ (v : WalkState). IsGivenBy (rank_by version v.rank) calls call items) e (gives (rank_by version w.rank) calls k.handles k.number)

@@ -7,7 +7,7 @@ use Rattle.must_call.specs.declared.call.Call.{Call}
 use Rattle.must_group.specs.Names.{Name}
 use Rattle.must_format.specs.declared.cause.Limit.{Limit}
 use Rattle.must_call.specs.Handles.{ClassedHandle}
-use Rattle.must_rules.specs.Limits.{longest_path}
+use Rattle.must_rules.specs.Limits.{longest_path, most_weight}
 use Rattle.must_local.specs.declared.fault.WalkFault.{WalkFault}
 use Rattle.must_local.specs.declared.fault.WalkFault.TheVariants as walk_fault
 use Rattle.must_rules.specs.Rank.{Rank}
@@ -17,6 +17,7 @@ use Rattle.must_rules.specs.Communicators.{Derived, is_there, there, is_collecti
 use Rattle.must_rules.specs.Known.{group_made, clear_behind}
 use Rattle.must_handle.specs.Slots.{Stands, state_in, committed_in}
 use Rattle.must_derived.specs.Standing as derived
+use Rattle.must_items.specs.CollectiveItems.{commute_made}
 use Rattle.must_local.specs.Counted.{Counted, counted, name_counted}
 use Rattle.must_local.specs.Objects.{slot_of, comm_in, group_in, Remembers}
 use Rattle.must_local.specs.Bumps.{bumped}
@@ -43,6 +44,7 @@ pub record HandlesStand (r : Rank) (h : Handles) (calls : List Call) : Type 0 wh
   pub tag_is : h.tag_ub ≡ r.tag_ub
   pub lives : Stands (clear_behind r) h.lives calls
   pub types : derived.Stands (clear_behind r) h.types calls
+  pub weight_is : h.types.table.weight_limit ≡ most_weight r.size
   pub objects : Remembers r h.objects calls
 
 -- ---- what becomes known of a handle that a call makes
@@ -62,9 +64,14 @@ abbrev pub known_group : Option (List ℕ) → Known
 known_group None = known.Nothing
 known_group (Some group) = known.Group group
 
+abbrev pub known_operation : Option Bool → Known
+known_operation None = known.Nothing
+known_operation (Some commute) = known.Operation commute
+
 abbrev pub known_made : Handles → Class → (clear : Bool) → Body → Known
 known_made h class.Comm clear b = known_comm (comm_made h (derived_of b))
 known_made h class.Group clear b = known_group (if clear then group_made (facts_in h) b else None)
+known_made h class.Operation clear b = known_operation (commute_made b)
 known_made h _ clear b = known.Nothing
 
 -- what a call counts: a collective call on a communicator that may be used

@@ -1,5 +1,5 @@
 -- A table of what a rank knows of its communicators and groups.
-use Rattle.std.specs.Prelude.{◌≡◌, ℕ, ◌+◌, ◌-◌, ◌==◌, ◌<◌, ◌≤◌, nat_le, nat_eq, if◌then◌else◌, List, [], length, Option, Some, None, option_map, slice_get}
+use Rattle.std.specs.Prelude.{◌≡◌, ℕ, Bool, ◌+◌, ◌-◌, ◌==◌, ◌<◌, ◌≤◌, nat_le, nat_eq, if◌then◌else◌, List, [], length, Option, Some, None, option_map, slice_get}
 use Rattle.std.specs.List.{All, IsDistinct}
 use Rattle.must_call.specs.declared.constants.TheConstants.{COMM_WORLD, COMM_SELF, GROUP_EMPTY, FIRST_MADE}
 use Rattle.must_call.specs.declared.class.Class.TheVariants as class
@@ -8,6 +8,7 @@ use Rattle.must_rules.specs.Rank.{Rank}
 use Rattle.must_rules.specs.Lives.{life, made_count}
 use Rattle.must_rules.specs.Communicators.{Derived, there, collectives, name_of}
 use Rattle.must_rules.specs.Known.{group_of}
+use Rattle.must_items.specs.CollectiveLists.{commute_of}
 use Rattle.must_local.specs.Counted.{Counted, counted}
 use Rattle.must_local.specs.declared.known.Known.{Known}
 use Rattle.must_local.specs.declared.known.Known.TheVariants as known
@@ -38,6 +39,14 @@ group_slot _ = None
 abbrev pub group_in : List Known → ℕ → Option (List ℕ)
 group_in slots number = if number == GROUP_EMPTY then Some [] else group_slot (slot_of slots number)
 
+abbrev pub operation_slot : Option Known → Option Bool
+operation_slot (Some (known.Operation commute)) = Some commute
+operation_slot _ = None
+
+-- whether a created operation commutes
+abbrev pub operation_in : List Known → ℕ → Option Bool
+operation_in slots number = operation_slot (slot_of slots number)
+
 -- ---- what it stands for
 
 -- a sound communicator after these calls
@@ -49,6 +58,7 @@ pub record Remembers (r : Rank) (slots : List Known) (calls : List Call) : Type 
   pub size : length slots ≡ 2 + made_count calls
   pub comms : (comm : ℕ) → there (life calls class.Comm comm) (comm_in slots comm) ≡ there (life calls class.Comm comm) (counted_of r calls comm)
   pub groups : (group : ℕ) → there (life calls class.Group group) (group_in slots group) ≡ there (life calls class.Group group) (group_of r calls group)
+  pub operations : (op : ℕ) → operation_in slots op ≡ commute_of calls op
 
 -- the members that a communicator may have: at most 1,024 distinct ranks below that
 pub record AreMembers (members : List ℕ) : Type 0 where

@@ -17,6 +17,9 @@ use Rattle.must_local.specs.Objects.{HasMembers}
 use Rattle.must_local.specs.HandlesKnown.{HandlesStand}
 use Rattle.must_entry.specs.declared.batch.Batch.{Batch}
 use Rattle.must_entry.specs.Entries.{rows_of}
+use Rattle.must_entry.specs.Entries as entries
+use Rattle.must_coll.specs.declared.item.WaveItem.{WaveItem}
+use Rattle.must_items.specs.CollectiveLists.{AreItemsOf}
 
 -- what a walk is told of its rank: its number, the number of ranks, and the greatest tag
 pub record RankTold : Type 0 where
@@ -57,6 +60,10 @@ pub record Knows (version : ℕ) (w : WalkState) (calls : List Call) : Type 0 wh
 abbrev pub all_rows : List Batch → List Finding
 all_rows batches = flat_map (λ b. rows_of b.entries) batches
 
+-- what the collective calls of some batches give
+abbrev pub collectives : List Batch → List WaveItem
+collectives batches = flat_map (λ b. entries.calls b.entries) batches
+
 -- a batch of a rank behind which others come
 pub record IsMiddle (rank : ℕ) (b : Batch) : Type 0 where
   pub rank_is : b.rank ≡ rank
@@ -67,13 +74,16 @@ pub record Walks (version : ℕ) (w : WalkState) (calls : List Call) (given : Li
   pub knows : Knows version w calls
   pub once : AreDistinct (all_rows given)
   pub rows : (f : Finding) → Has (all_rows given) f ↔ IsHere (rank_by version w.rank) calls f
+  pub waves : AreItemsOf (rank_by version w.rank) calls (collectives given)
   pub middle : AllByRecursion (IsMiddle (rank_by version w.rank).rank) given
   pub within : IsWithin (rank_by version w.rank) calls
 
--- these batches are all that the calls of a rank give: each local row once, and the last batch alone is the last
+-- these batches are all that the calls of a rank give: each local row once, what each collective call gives to its wave, and the
+-- last batch alone is the last
 pub record GivesAll (r : Rank) (calls : List Call) (batches : List Batch) : Type 0 where
   pub once : AreDistinct (all_rows batches)
   pub rows : (f : Finding) → Has (all_rows batches) f ↔ IsLocal r calls f
+  pub waves : AreItemsOf r calls (collectives batches)
   pub middle : List Batch
   pub last : Batch
   pub batches_are : batches ≡ middle ++ last ∷ []

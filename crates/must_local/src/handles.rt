@@ -1,22 +1,24 @@
 //! What a rank knows of its handles.
 
-ghost use Rattle.std.specs.Prelude.{◌≡◌, ◌+◌, ◌++◌, ◌∷◌, [], ℕ, true, None, ◌<◌, ◌^◌, List, Option, length, option_map, IfOk, IfErr, IfSome, OnOk, false};
+ghost use Rattle.std.specs.Prelude.{◌≡◌, ◌+◌, ◌++◌, ◌∷◌, [], ℕ, true, None, Some, is_some, ◌<◌, ◌^◌, List, Option, length, option_map, IfOk, IfErr, IfSome, OnOk, false};
 ghost use Rattle.must_call.specs.declared.call.Call.{Call};
 ghost use Rattle.must_rules.specs.Rank.{Rank};
 ghost use Rattle.must_rules.specs.Making.{made_by};
-ghost use Rattle.must_rules.specs.Limits.{path_limit, limit_at};
+ghost use Rattle.must_rules.specs.Limits.{path_limit, most_weight, limit_at};
 ghost use Rattle.must_rules.specs.Clear.{is_clear};
 ghost use Rattle.must_rules.specs.Communicators.{derived_of};
 ghost use Rattle.must_rules.specs.Known.{group_made};
 ghost use Rattle.must_handle.specs.Changes.{IsNext};
 ghost use Rattle.must_rules.specs.Facts.{members_of};
-ghost use Rattle.must_local.specs.Objects.{HasMembers};
+ghost use Rattle.must_items.specs.CollectiveItems.{commute_made};
+ghost use Rattle.must_local.specs.Counted.{counted};
+ghost use Rattle.must_local.specs.Objects.{HasMembers, operation_in};
 ghost use Rattle.must_format.specs.declared.cause.Limit.{Limit};
 ghost use Rattle.must_rules.specs.Starts.{Clearness};
 ghost use Rattle.must_rules.specs.Limits.{type_limit_at};
 ghost use Rattle.must_derived.specs.Numbers.{IsNext as IsNextType};
 ghost use Rattle.must_derived.specs.Standing.{Stands as TypesStand, IsTypeLimit};
-ghost use Rattle.must_local.specs.HandlesKnown.{Counts, TakesIn, IsLimitAt, full_path, parent_in, too_deep, made_too_deep, usable_comm, comm_made, known_comm, known_made, facts_in, HandlesStand};
+ghost use Rattle.must_local.specs.HandlesKnown.{Counts, TakesIn, IsLimitAt, full_path, parent_in, too_deep, made_too_deep, usable_comm, comm_made, known_comm, known_operation, known_made, facts_in, HandlesStand};
 
 use crate::comm::Comm;
 use crate::derived::{comm_named, derived_comm, is_collective, is_there};
@@ -31,6 +33,7 @@ use must_derived::Datatypes;
 use must_format::Limit;
 use must_group::{Group, NameFault};
 use must_handle::{Lives, made};
+use must_items::Communicator;
 use must_type::{Limit2, TypeFault};
 use std::alloc::Global;
 
@@ -95,6 +98,20 @@ impl View for Handles {
     }
 }
 
+/// The weights of a run's live datatypes may be so much together (docs/FORMAT.md, "Limits").
+const MOST_WEIGHT: u64 = 0x400_0000;
+
+/// What those of a rank may be, in a run of so many.
+fn most_weight(size: u32) -> u64
+    ensures { result ≡ most_weight size }
+{
+    if size == 0 {
+        0
+    } else {
+        MOST_WEIGHT / u64::from(size)
+    }
+}
+
 /// What stops a walk at call `k` where a type isn't made.
 fn type_limit(k: u32, fault: TypeFault) -> WalkFault
     ensures { (reached : Option Limit) → IsTypeLimit reached fault → IsLimitAt k reached result }
@@ -116,6 +133,16 @@ fn type_limit(k: u32, fault: TypeFault) -> WalkFault
     }
 }
 
+/// What is known of the operation that a call makes.
+fn operation_made(body: &Body) -> Known
+    ensures { result ≡ known_operation (commute_made body.now) }
+{
+    match body {
+        Body::Object(Object::OpCreate { commute, .. }) => Known::Operation(*commute),
+        _ => Known::Nothing,
+    }
+}
+
 impl Handles {
     /// What is known before the first call, at a rank of a run of so many.
     pub fn new(alloc: Global, rank: u32, size: u32, tag_ub: i32) -> Result<Handles, NoMemory>
@@ -123,7 +150,7 @@ impl Handles {
         ensures told { IfOk result (λ h. (h.rank ≡ rank) × (h.tag_ub ≡ tag_ub)) }
     {
         let lives = Lives::new(alloc)?;
-        let types = Datatypes::new(alloc)?;
+        let types = Datatypes::new(alloc, most_weight(size))?;
         let objects = Objects::new(alloc, rank, size)?;
         Ok(Handles {
             rank,
@@ -164,6 +191,28 @@ impl Handles {
         } else {
             None
         }
+    }
+
+    /// A sound communicator that may be used, where this rank is one of its members.
+    pub fn communicator(&self, number: u32) -> Option<Communicator<'_>>
+        ensures there { is_some result ≡ is_some ((facts_in self.now).comm number) }
+        ensures told { IfSome result (λ on. (on.comm ≡ number) × (usable_comm self.now number ≡ Some (counted on.calls on.name.now))) }
+    {
+        let comm = self.comm(number)?;
+        let name = comm.name();
+        name.members().position(self.rank)?;
+        Some(Communicator {
+            comm: number,
+            name,
+            calls: comm.calls(),
+        })
+    }
+
+    /// Whether a created operation commutes; none for one that MPI names.
+    pub fn commute(&self, op: u32) -> Option<bool>
+        ensures { result ≡ operation_in self.now.objects op }
+    {
+        self.objects.commute(op)
     }
 
     /// What is known of the communicator that call `k` makes.
@@ -248,6 +297,7 @@ impl Handles {
                     None => Ok(Known::Nothing),
                 }
             }
+            Class::Operation => Ok(operation_made(&call.body)),
             _ => Ok(Known::Nothing),
         }
     }
@@ -302,9 +352,10 @@ impl Handles {
         call: &Call,
         clear: bool,
     ) -> Result<(), WalkFault>
+        ensures limit { OnOk result (self.new.types.table.weight_limit ≡ self.old.types.table.weight_limit) }
         ensures stands { OnOk result ((is_clear : Clearness) (calls : List Call) → IsNextType self.old.types.numbers call.now → clear ≡ is_clear calls call.now → TypesStand is_clear self.old.types calls → TypesStand is_clear self.new.types (calls ++ call.now ∷ [])) }
-        ensures within { OnOk result ((is_clear : Clearness) (calls : List Call) → clear ≡ is_clear calls call.now → TypesStand is_clear self.old.types calls → type_limit_at is_clear calls call.now ≡ None) }
-        ensures over { IfErr result (λ fault. (is_clear : Clearness) (calls : List Call) → clear ≡ is_clear calls call.now → TypesStand is_clear self.old.types calls → IsLimitAt k (type_limit_at is_clear calls call.now) fault) }
+        ensures within { OnOk result ((is_clear : Clearness) (calls : List Call) → clear ≡ is_clear calls call.now → TypesStand is_clear self.old.types calls → type_limit_at self.old.types.table.weight_limit is_clear calls call.now ≡ None) }
+        ensures over { IfErr result (λ fault. (is_clear : Clearness) (calls : List Call) → clear ≡ is_clear calls call.now → TypesStand is_clear self.old.types calls → IsLimitAt k (type_limit_at self.old.types.table.weight_limit is_clear calls call.now) fault) }
         ensures others { (self.new.lives ≡ self.old.lives) × (self.new.objects ≡ self.old.objects) × (self.new.rank ≡ self.old.rank) × (self.new.tag_ub ≡ self.old.tag_ub) }
     {
         match self.types.take(alloc, call, clear) {

@@ -1,5 +1,5 @@
 //! The walk over the calls of one rank, which gives the rank's entries in batches: so far the findings of the rules that look
-//! at one rank alone.
+//! at one rank alone, and what collective calls give to their waves.
 //!
 //! A call is taken in time linear in its fields and in the requests that it completes or starts; the members of a communicator
 //! that it makes are copied, and so are those of a group. The first Finalize takes five passes over the handles that were made. Memory
@@ -21,6 +21,9 @@ mod rows;
 #[cfg(test)]
 mod tests;
 mod walk;
+#[cfg(test)]
+mod wave_tests;
+mod waves;
 
 pub use fault::WalkFault;
 pub use must_entry::{Batch, Entry, ItemList};

@@ -1,9 +1,9 @@
-//! What a rank knows of its communicators and groups beside their lives.
+//! What a rank knows of its communicators, groups and operations beside their lives.
 
 ghost use Rattle.std.specs.Prelude.{◌≡◌, ◌↔◌, ◌++◌, ◌∷◌, [], ◌+◌, ◌<◌, ◌^◌, ℕ, nat_eq, List, length, Option, Some, None, option_map, IfOk, OnOk, if◌then◌else◌};
 ghost use Rattle.std.specs.List.{IsDistinct};
 ghost use Rattle.must_group.specs.Groups.{below};
-ghost use Rattle.must_local.specs.Objects.{place_of, slot_of, comm_in, group_in};
+ghost use Rattle.must_local.specs.Objects.{place_of, slot_of, comm_in, group_in, operation_in};
 ghost use Rattle.must_local.specs.Counted.{counted};
 ghost use Rattle.must_local.specs.Bumps.{Bumps, bumped, first_objects};
 ghost use Rattle.must_local.specs.declared.known.Known.TheVariants as slot;
@@ -133,6 +133,16 @@ impl Objects {
         }
         match self.slot(number) {
             Some(Known::Group(group)) => Some(group),
+            _ => None,
+        }
+    }
+
+    /// Whether a created operation commutes.
+    pub fn commute(&self, number: u32) -> Option<bool>
+        ensures { result ≡ operation_in self.now number }
+    {
+        match self.slot(number) {
+            Some(Known::Operation(commute)) => Some(*commute),
             _ => None,
         }
     }

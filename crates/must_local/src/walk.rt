@@ -18,13 +18,14 @@ ghost use Rattle.must_rules.specs.Search.{or_then, only_if};
 ghost use Rattle.must_local.specs.Adding.{RowsAt, RowsAtEnd};
 ghost use Rattle.must_local.specs.Walks.{rank_by, MayStep, Knows, Walks, GivesAll};
 
-use crate::batch::row_entries;
+use crate::batch::{call_entries, row_entries};
 use crate::fault::WalkFault;
 use crate::handles::Handles;
 use crate::leaks::add_leaks_at;
 use crate::members::are_members;
 use crate::reductions::add_untaken;
 use crate::rows::{add_frames, add_missing, is_finalize_call, is_init_call};
+use crate::waves::wave_item;
 use must_args::check_args;
 use must_base::NoMemory;
 use must_call::{Body, Call, Place};
@@ -182,8 +183,13 @@ impl RankWalk {
         ensures over { IfErr result (λ fault. (version : ℕ) (calls : List Call) (given : List Batch) → Walks version self.old calls given → IsLimitAt (length calls) (limit_at (rank_by version self.old.rank) calls call.now) fault) }
     {
         let judged = self.judge(call)?;
-        let entries = row_entries(self.alloc, judged.rows.as_slice())?;
         let rank = self.handles.rank;
+        let at = Place {
+            rank,
+            call: self.number,
+        };
+        let wave = wave_item(self.alloc, &self.handles, at, call, judged.clear)?;
+        let entries = call_entries(self.alloc, judged.rows.as_slice(), wave)?;
         self.take(call, judged.clear)?;
         Ok(Batch {
             rank,

@@ -19,14 +19,10 @@ mod fault;
 mod finish;
 mod lay;
 mod overlaps;
-#[cfg(test)]
-mod pending_tests;
 mod placed;
 mod roles;
 mod scope;
 mod take;
-#[cfg(test)]
-mod tests;
 mod told;
 mod weigh;
 

@@ -1,11 +1,11 @@
-use Rattle.std.proofs.Common.{◌≡◌, List, [], ◌∷◌, ◌++◌, length, sym, ap, subst, ◌∙◌, ◌+◌}
+use Rattle.std.proofs.Common.{◌≡◌, ℕ, None, List, [], ◌∷◌, ◌++◌, length, sym, ap, subst, ◌∙◌, ◌+◌}
 use Rattle.std.proofs.lemmas.Result.{err_from_is_err_and}
 use Rattle.must_call.specs.declared.call.Call.{Call}
 use Rattle.must_handle.specs.declared.slot.Slot.{Slot}
 use Rattle.must_handle.specs.Slots.{Stands}
 use Rattle.must_rules.specs.Rank.{Rank}
 use Rattle.must_rules.specs.Known.{clear_behind}
-use Rattle.must_rules.specs.Limits.{path_limit, or_limit, limit_at}
+use Rattle.must_rules.specs.Limits.{path_limit, most_weight, type_limit_at, or_limit, limit_at}
 use Rattle.must_derived.specs.declared.datatypes.Datatypes.{Datatypes}
 use Rattle.must_derived.specs.Numbers.{IsNext}
 use Rattle.must_derived.specs.Standing as derived
@@ -31,6 +31,7 @@ returns-clause-stands c = λ r calls len s.
       lives = c.in_ok-apply.ensures.stands (clear_behind r) calls len (λ starts. sym clear)
           (subst (λ (slots : List Slot). Stands (clear_behind r) slots calls) (sym (others.0 ∙ c.in_ok-take_in.ensures.lives.0)) s.lives);
       types = c.in_ok-take_type.ensures.stands (clear_behind r) calls next clear (subst (λ (t : Datatypes). derived.Stands (clear_behind r) t calls) (sym same) s.types);
+      weight_is = c.in_ok-take_type.ensures.limit ∙ ap (λ (t : Datatypes). t.table.weight_limit) same ∙ s.weight_is;
       objects = subst (λ (slots : List Known). Remembers r slots (calls ++ call ∷ [])) (sym others.1)
           (remembers_more r calls call c.args.self.now c.args.clear takes.mid c.take_in.new.self.objects s c.requires.next c.requires.clear takes.counts takes.grows);
     }
@@ -41,8 +42,10 @@ returns-clause-within c = λ r calls s.
     let clear = c.requires.clear ∙ clear_is r c.args.self.now calls call s in
     let same : c.take_in.new.self.types ≡ c.args.self.now.types = c.in_ok-take_in.ensures.lives.1 in
     let none = c.in_ok-take_type.ensures.within (clear_behind r) calls clear (subst (λ (t : Datatypes). derived.Stands (clear_behind r) t calls) (sym same) s.types) in
+    let most : c.take_in.new.self.types.table.weight_limit ≡ most_weight r.size = ap (λ (t : Datatypes). t.table.weight_limit) same ∙ s.weight_is in
+    let light = subst (λ (n : ℕ). type_limit_at n (clear_behind r) calls call ≡ None) most none in
     let shallow = sym (deep_is r c.args.self.now calls call s) ∙ c.in_ok-take_in.ensures.within in
-    (λ i. or_limit (none i) (path_limit (shallow i)))
+    (λ i. or_limit (light i) (path_limit (shallow i)))
 
 pub returns-in_err-take_in-clause-over : goal.returns-in_err-take_in-clause-over
 returns-in_err-take_in-clause-over c =
@@ -59,4 +62,4 @@ returns-in_err-take_type-clause-over c =
     let call = c.args.call.now in
     let same : c.take_in.new.self.types ≡ c.args.self.now.types = c.in_ok-take_in.ensures.lives.1 in
     handed_on c.from_residual-in_err-take_type.result p.0 f (λ fault. (r : Rank) (calls : List Call) → HandlesStand r c.args.self.now calls → IsLimitAt c.args.k (limit_at r calls call) fault) p.1 p.2
-    (λ r calls s. type_over r calls call c.args.k f (c.in_err-take_type.ensures.over (clear_behind r) calls (c.requires.clear ∙ clear_is r c.args.self.now calls call s) (subst (λ (t : Datatypes). derived.Stands (clear_behind r) t calls) (sym same) s.types)))
+    (λ r calls s. type_over r calls call c.args.k f (subst (λ (n : ℕ). IsLimitAt c.args.k (type_limit_at n (clear_behind r) calls call) f) (ap (λ (t : Datatypes). t.table.weight_limit) same ∙ s.weight_is) (c.in_err-take_type.ensures.over (clear_behind r) calls (c.requires.clear ∙ clear_is r c.args.self.now calls call s) (subst (λ (t : Datatypes). derived.Stands (clear_behind r) t calls) (sym same) s.types))))

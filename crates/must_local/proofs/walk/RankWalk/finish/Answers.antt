@@ -5,4 +5,4 @@ use Rattle.must_local.proofs.walk.RankWalk.finish.Goals as goal
 
 pub returns : goal.returns
 returns c = λ version calls given walks.
-    walks_end version c.args.self calls given _ c.in_ok-rows.rows (c.in_ok-rows.ensures version calls walks.knows) (c.in_ok-entries.ensures ∙ c.as_slice.ensures.items) (ap (λ (w : WalkState). w.rank.rank) c.self.view_is) refl walks
+    walks_end version c.args.self calls given _ c.in_ok-rows.rows (c.in_ok-rows.ensures version calls walks.knows) (c.in_ok-entries.ensures.rows ∙ c.as_slice.ensures.items) c.in_ok-entries.ensures.calls (ap (λ (w : WalkState). w.rank.rank) c.self.view_is) refl walks

@@ -1,0 +1,10 @@
+pub mod Moved
+pub mod CollectiveItems
+pub mod CollectiveLists
+pub mod Seen
+pub mod Typed
+pub mod TypedLaws
+pub mod CommuteLaws
+pub mod ListLaws
+pub mod NameLaws
+pub mod OrderLaws

@@ -1,7 +1,0 @@
-use Rattle.std.proofs.Common.{refl}
-use Rattle.std.specs.List.{IsDistinct}
-use Rattle.must_parts.proofs.tests.rank_at.Goals as goal
-
-pub of-requires : goal.of-requires
-unfolding IsDistinct
-of-requires c = ((refl, (refl, tt)), ((refl, tt), (tt, tt)))
