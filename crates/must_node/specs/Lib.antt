@@ -19,3 +19,4 @@ pub mod Sharing
 pub mod PartnerLaws
 pub mod MemberLaws
 pub mod NeedLaws
+pub mod FreeLaws

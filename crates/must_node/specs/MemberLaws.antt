@@ -75,7 +75,7 @@ module _ (entries : List Entry) (facts : List Fact) (moved : Rearranges facts (f
   call_there : (x : WaveItem) → Has (entry.calls entries) x → Has (calls facts) (told x)
   call_there x h = still_has (told x) (back (flat_mapped call_of moved)) (subst (λ (l : List Call). Has l (told x)) (sym (calls_among (messages entries) entries)) (has_mapped told (entry.calls entries) x h))
 
-  call_from : (y : Call) → Has (calls facts) y → IsMapped told (entry.calls entries) y
+  pub call_from : (y : Call) → Has (calls facts) y → IsMapped told (entry.calls entries) y
   call_from y h = mapped_has told (entry.calls entries) y (subst (λ (l : List Call). Has l y) (calls_among (messages entries) entries) (still_has y (flat_mapped call_of moved) h))
 
   by_search : (m : Member) (u : Option Call) (v : Option WaveItem) → find (is_at m) (calls facts) ≡ u → find (is_call m) (entry.calls entries) ≡ v → option_map (λ (y : Call). y.place) u ≡ option_map (λ (x : WaveItem). x.place) v

@@ -66,7 +66,7 @@ meeting_total =
     (then_total (on_total (λ (m : Meeting). m.dest) nat_cmp_total)
     (then_total (on_total (λ (m : Meeting). m.tag) int_cmp_total) (then_total (on_total (λ (m : Meeting). m.number) nat_cmp_total) (on_total (λ (m : Meeting). m.name) name_total))))
 
-meeting_is : (a b : Meeting) → is_eq (meeting_cmp a b) ≡ true → a ≡ b
+pub meeting_is : (a b : Meeting) → is_eq (meeting_cmp a b) ≡ true → a ≡ b
 meeting_is a b e =
     let n = ordering_then (nat_cmp a.number b.number) (name_cmp a.name b.name) in
     let p = then_parts (nat_cmp a.source b.source) (ordering_then (nat_cmp a.dest b.dest) (ordering_then (int_cmp a.tag b.tag) n)) (eq_equal (meeting_cmp a b) e) in
@@ -80,7 +80,7 @@ meeting_is a b e =
     let name = name_same a.name b.name s.1 in
     λ i. record { source = source i; dest = dest i; tag = tag i; number = number i; name = name i }
 
-class_from : (x y : MsgItem) (ms : List MsgItem) → meeting_of (numbered ms x) ≡ meeting_of (numbered ms y) → class_of x ≡ class_of y
+pub class_from : (x y : MsgItem) (ms : List MsgItem) → meeting_of (numbered ms x) ≡ meeting_of (numbered ms y) → class_of x ≡ class_of y
 class_from x y ms e = ap (λ (m : Meeting). record { source = m.source; dest = m.dest; tag = m.tag; name = m.name }) e
 
 meeting_from : (x y : MsgItem) (ms : List MsgItem) → class_of x ≡ class_of y → number ms x ≡ number ms y → meeting_of (numbered ms x) ≡ meeting_of (numbered ms y)
@@ -101,7 +101,7 @@ module _ (entries : List Entry) (facts : List Fact) (moved : Rearranges facts (f
   item_there : (x : MsgItem) → Has ms x → Has (items facts) (numbered ms x)
   item_there x h = still_has (numbered ms x) (back (flat_mapped item_of moved)) (subst (λ (l : List Item). Has l (numbered ms x)) (sym (items_among ms entries)) (has_mapped (numbered ms) ms x h))
 
-  item_from : (y : Item) → Has (items facts) y → IsMapped (numbered ms) ms y
+  pub item_from : (y : Item) → Has (items facts) y → IsMapped (numbered ms) ms y
   item_from y h = mapped_has (numbered ms) ms y (subst (λ (l : List Item). Has l y) (items_among ms entries) (still_has y (flat_mapped item_of moved) h))
 
   -- what is found of a side, class and number is an item of these

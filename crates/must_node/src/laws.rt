@@ -1,6 +1,6 @@
 //! Laws of nodes and of the levels of a tree. The functions do nothing: their contracts are the laws.
 
-ghost use Rattle.std.specs.Prelude.{◌≡◌, ◌⊎◌, ◌↔◌, ◌++◌, [], ℕ, List, map, Some, None, true, false, slice_get};
+ghost use Rattle.std.specs.Prelude.{◌≡◌, ◌⊎◌, ◌↔◌, ◌++◌, [], ℕ, Bool, List, map, Some, None, true, false, slice_get};
 ghost use Rattle.std.specs.Option.{option_map};
 ghost use Rattle.std.specs.List.{AllByRecursion};
 ghost use Rattle.must_base.specs.Listing.{Has};
@@ -18,7 +18,7 @@ ghost use Rattle.must_entry.specs.declared.range.RankRange.{RankRange};
 ghost use Rattle.must_entry.specs.declared.batch.Batch.{Batch};
 ghost use Rattle.must_entry.specs.Entries as entry;
 ghost use Rattle.must_entry.specs.Entries.{messages, calls, entries_of};
-ghost use Rattle.must_entry.specs.Lawful.{IsLawful};
+ghost use Rattle.must_entry.specs.Lawful.{IsLawful, Rise};
 ghost use Rattle.must_node.specs.declared.fact.Fact.{Fact};
 ghost use Rattle.must_node.specs.EntryRows.{IsRow};
 ghost use Rattle.must_node.specs.Facts.{facts_of};
@@ -26,6 +26,7 @@ ghost use Rattle.must_node.specs.Inner.{within, inner, outer};
 ghost use Rattle.must_node.specs.Nodes.{all_up};
 ghost use Rattle.must_node.specs.Levels.{Part, all_given, all_left, IsRowOfOne, all_facts, AreApart, IsInside, AreLevels, IsRowOfLevels, facts_of_levels};
 ghost use Rattle.must_node.specs.Partners.{meeting_of, needs, place_of, past, place_or, wave_places};
+ghost use Rattle.must_node.specs.RunNeeds.{run_needs};
 ghost use Rattle.must_node.specs.PartnerLaws.{numbered};
 ghost use Rattle.must_node.specs.MemberLaws.{told};
 ghost use Rattle.must_node.specs.TreeLaws.{Child, parts_of, AreChildren};
@@ -97,4 +98,11 @@ pub fn waves_are_told()
 pub fn needs_come_from_the_root()
     ensures told { (entries : List Entry) → needs (facts_of entries) ≡ entry.needs entries }
     ensures none { (range : RankRange) (entries : List Entry) → needs (facts_of (inner false range entries)) ≡ [] }
+{}
+
+/// The needs of a run are the same of facts in any order, where the needs of each rank stand in one order: so are its blocked
+/// calls, whatever nodes gave the facts.
+pub fn needs_are_free()
+    ensures { (entries : List Entry) (a b : List Fact) → Rearranges a (facts_of entries) → Rearranges b (facts_of entries) → Orderly (messages entries) → waves.Orderly (calls entries) → Rise (map (λ (x : WaveItem). x.place) (calls entries)) → needs a ≡ needs b
+        → (strict : Bool) (size : ℕ) → run_needs strict a size ≡ run_needs strict b size }
 {}

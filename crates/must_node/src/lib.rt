@@ -29,7 +29,7 @@ mod waits;
 pub use closed::Closed;
 pub use fact::{Fact, FactList};
 pub use laws::{
-    children_are_apart, handed_up_is_lawful, level_settles, levels_settle,
+    children_are_apart, handed_up_is_lawful, level_settles, levels_settle, needs_are_free,
     needs_come_from_the_root, node_settles, one_node_settles, order_is_free, partners_are_matches,
     waves_are_told,
 };
