@@ -454,9 +454,14 @@ fn reductions(rt: HostRuntime) -> Result<(), Fail> {
     Ok(())
 }
 
-/// What the second call of a rank is refused by.
-fn refused(rt: &impl Abort, alloc: Global, act: Act) -> Result<Option<WalkFault>, NoMemory> {
-    let mut walk = RankWalk::new(alloc, 0, 2, 32767)?;
+/// What the second call of a rank is refused by, in a run of so many.
+fn refused(
+    rt: &impl Abort,
+    alloc: Global,
+    size: u32,
+    act: Act,
+) -> Result<Option<WalkFault>, NoMemory> {
+    let mut walk = RankWalk::new(alloc, 0, size, 32767)?;
     let init = Call {
         returned: true,
         body: body_of(alloc, Act::Init)?,
@@ -470,19 +475,28 @@ fn refused(rt: &impl Abort, alloc: Global, act: Act) -> Result<Option<WalkFault>
     Ok(walk.step(&call).err())
 }
 
-/// The weight of the live types is 2^26 at the most.
-#[test]
-fn weights(rt: HostRuntime) -> Result<(), Fail> {
-    let alloc = rt.alloc();
+fn expect_weight(rt: &impl Abort, alloc: Global, size: u32, most: i32) -> Result<(), NoMemory> {
     let fault = WalkFault::TooWide {
         call: 1,
         limit: Limit::TypeWeight,
     };
-    assert_eq!(&rt; refused(&rt, alloc, Act::Vector(67_108_864, 64))?, None);
-    assert_eq!(&rt;
-        refused(&rt, alloc, Act::Vector(67_108_865, 64))?,
+    assert_eq!(rt; refused(rt, alloc, size, Act::Vector(most, 64))?, None);
+    let more = most.saturating_add(1);
+    assert_eq!(rt;
+        refused(rt, alloc, size, Act::Vector(more, 64))?,
         Some(fault)
     );
+    Ok(())
+}
+
+/// The weight of the live types is 2^26 at the most, shared by the ranks.
+#[test]
+fn weights(rt: HostRuntime) -> Result<(), Fail> {
+    let alloc = rt.alloc();
+    expect_weight(&rt, alloc, 1, 67_108_864)?;
+    expect_weight(&rt, alloc, 2, 33_554_432)?;
+    expect_weight(&rt, alloc, 3, 22_369_621)?;
+    expect_weight(&rt, alloc, 1024, 65_536)?;
     Ok(())
 }
 
