@@ -1,11 +1,10 @@
 -- Signatures that are repeated for each member.
-use Rattle.std.proofs.Common.{◌≡◌, ℕ, ◌+◌, ◌<◌, ◌≤◌, ℤ, pos, List, [], ◌∷◌, ◌++◌, map, length, take, get_or, Option, Some, None, refl, sym, ap, ◌∙◌, arith}
+use Rattle.std.proofs.Common.{◌≡◌, ℕ, ◌+◌, ◌<◌, ◌≤◌, ℤ, pos, List, [], ◌∷◌, ◌++◌, map, length, take, get_or, Option, sym, ap, ◌∙◌, arith}
 use Rattle.std.proofs.lemmas.List.{append-nil, map-append, take_more}
 use Rattle.must_call.specs.declared.basic.Basic.{Basic}
 use Rattle.must_type.specs.Tree.{TypeTree, type_map}
 use Rattle.must_sig.specs.Signatures.{Periods, expansion, repeated, signature, basics_of}
-use Rattle.must_rules.specs.ArgumentRules.{for_members}
-use Rattle.must_items.specs.Moved.{elements, signatures_of, signatures_by}
+use Rattle.must_items.specs.Moved.{elements, signatures_of}
 use Rattle.must_items.specs.Typed.{HasMap}
 
 pub once : (xs : List Basic) → repeated 1 xs ≡ xs
@@ -25,17 +24,6 @@ of_type t e counts is = ap (λ (b : List Basic). map (λ z. repeated (elements z
 -- the map of the type decides
 pub by_map : (held : TypeTree) (o : Option TypeTree) (counts : List ℤ) → HasMap o held → map (λ z. signature held (elements z)) counts ≡ signatures_of o counts
 by_map held o counts m = ap (λ b. map (λ z. repeated (elements z) (basics_of b)) counts) m.map_is ∙ ap (λ (p : Option TypeTree). signatures_of p counts) (sym m.is)
-
-pub no_count : (trees : ℕ → Option TypeTree) (size : Option ℕ) (d : Option ℕ) → [] ≡ signatures_by trees size None d
-no_count trees size d = refl
-
-pub no_type : (trees : ℕ → Option TypeTree) (size : Option ℕ) (m : Option (List ℤ)) → [] ≡ signatures_by trees size m None
-no_type trees size None = refl
-no_type trees size (Some counts) = refl
-
-pub no_tree : (trees : ℕ → Option TypeTree) (size : Option ℕ) (m : Option (List ℤ)) (h : ℕ) → trees h ≡ None → [] ≡ signatures_by trees size m (Some h)
-no_tree trees size None h e = refl
-no_tree trees size (Some counts) h e = sym (ap (λ (o : Option TypeTree). signatures_of o (for_members size counts)) e)
 
 -- a loop that went as far as it may took all
 pub end_of : (counts : List ℤ) (i n : ℕ) → i ≤ n → n ≤ i → take i counts ≡ take n counts

@@ -1,7 +1,7 @@
 -- Rows in entries, and what several adders add.
 use Rattle.std.proofs.Common.{◌≡◌, ℕ, zero, suc, ◌+◌, ◌<◌, ◌≤◌, List, [], ◌∷◌, ◌++◌, length, take, get_or, Option, Some, None, refl, sym, ap, subst, ◌∙◌, inl, inr, arith, append_assoc}
 use Rattle.std.specs.Prelude.{◌⊎◌, slice_get}
-use Rattle.std.proofs.lemmas.List.{take_more, append-nil}
+use Rattle.std.proofs.lemmas.List.{take_more}
 use Rattle.std.specs.Option.{option_to_list}
 use Rattle.std.proofs.lemmas.Bool.{cases_eq}
 use Rattle.std.proofs.lemmas.Option.{slice_get_past}
@@ -18,7 +18,7 @@ use Rattle.must_rules.specs.LiveLaws.{live_more, live_count, live_now}
 use Rattle.must_rules.specs.Leaks.{leak}
 use Rattle.must_local.specs.Adding.{IsOfRule, ClassRows, open_one}
 use Rattle.must_entry.specs.declared.entry.Entry.{Entry}
-use Rattle.must_entry.specs.declared.entry.Entry.TheVariants.{Row, Wave}
+use Rattle.must_entry.specs.declared.entry.Entry.TheVariants.{Row}
 use Rattle.must_coll.specs.declared.item.WaveItem.{WaveItem}
 use Rattle.must_entry.specs.Entries.{rows_of, call_of, calls}
 use Rattle.must_entry.specs.EntryLaws.{rows_append}
@@ -33,13 +33,6 @@ calls_append (x ∷ xs) ys = ap (λ (items : List WaveItem). call_of x ++ items)
 -- a row is no collective call
 pub calls_next : (xs : List Entry) (f : Finding) → calls xs ≡ [] → calls (xs ++ Row f ∷ []) ≡ []
 calls_next xs f e = calls_append xs (Row f ∷ []) ∙ ap (λ (items : List WaveItem). items ++ []) e
-
--- a collective call behind rows
-pub rows_kept : (xs : List Entry) (item : WaveItem) → rows_of (xs ++ Wave item ∷ []) ≡ rows_of xs
-rows_kept xs item = rows_append xs (Wave item ∷ []) ∙ append-nil (rows_of xs)
-
-pub calls_come : (xs : List Entry) (item : WaveItem) → calls xs ≡ [] → calls (xs ++ Wave item ∷ []) ≡ item ∷ []
-calls_come xs item e = calls_append xs (Wave item ∷ []) ∙ ap (λ (items : List WaveItem). items ++ item ∷ []) e
 
 -- ---- adding
 
