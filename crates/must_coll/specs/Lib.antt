@@ -14,3 +14,12 @@ pub mod ListLaws
 pub mod WaveLaws
 pub mod GrowthLaws
 pub mod OrderFree
+pub mod Plain
+pub mod PlainWaves
+pub mod PlainAmounts
+pub mod PlainMade
+pub mod PlainLaws
+pub mod OneRowPlaces
+pub mod OneRowWave
+pub mod OneRowLaws
+pub mod OneRowRules

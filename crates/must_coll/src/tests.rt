@@ -11,6 +11,8 @@ use std::alloc::Global;
 use std::process::Abort;
 use std::test::Fail;
 
+const CHAR: TypeNo = TypeNo { number: 1 };
+
 const INT: TypeNo = TypeNo { number: 7 };
 
 /// Some lists of ranks.
@@ -447,6 +449,57 @@ fn roots_and_operations(rt: HostRuntime) -> Result<(), Fail> {
     second.operation = operation(64, Some(false));
     let want = [finding(1, 1, Rule::C3, 0, Some((0, 1)), 64)];
     expect_findings(&rt, alloc, Ranks::Both, &[first, second], &want)
+}
+
+/// The signature of one element of a type.
+fn one_of(rt: &impl Abort, alloc: Global, no: TypeNo) -> Result<SigList, NoMemory> {
+    let table = TypeTable::new(alloc, 1000)?;
+    let mut items = Vec::new(alloc);
+    assert!(rt; table.is_live(no));
+    items.push(Sig::of(alloc, &table, no, 1)?)?;
+    Ok(SigList::from_vec(items))
+}
+
+/// Puts calls of `MPI_Reduce` with `MPI_SUM` in, each of one element of its type; how many waves become whole.
+fn put_sums(
+    rt: &impl Abort,
+    alloc: Global,
+    members: Ranks,
+    types: &[TypeNo],
+    out: &mut Findings,
+) -> Result<u32, NoMemory> {
+    let mut waves = Waves::new(alloc)?;
+    let mut whole: u32 = 0;
+    let mut rank: u32 = 0;
+    for no in types {
+        let mut short = call(rank, Kind::Reduce, &[], &[]);
+        short.operation = operation(3, None);
+        let mut item = item_of(rt, alloc, members, 0, &short)?;
+        item.sends = one_of(rt, alloc, *no)?;
+        if waves.put(item, out)?.is_some() {
+            whole = whole.saturating_add(1);
+        }
+        rank = rank.saturating_add(1);
+    }
+    waves.close(out)?;
+    Ok(whole)
+}
+
+/// That an operation isn't on a type is a matter of the call alone (docs/RULES.md, C6): its wave has no row.
+#[test]
+fn an_operation_not_on_its_type(rt: HostRuntime) -> Result<(), Fail> {
+    let alloc = rt.alloc();
+    let mut alone = Findings::new(alloc);
+    let whole = put_sums(&rt, alloc, Ranks::Zero, &[CHAR], &mut alone)?;
+    assert_eq!(rt; whole, 1);
+    assert_eq!(rt; alone.len(), 0);
+    let mut apart = Findings::new(alloc);
+    let whole = put_sums(&rt, alloc, Ranks::Both, &[CHAR, INT], &mut apart)?;
+    assert_eq!(rt; whole, 1);
+    assert_eq!(rt; apart.len(), 1);
+    let want = finding(1, 1, Rule::C4, 0, Some((0, 1)), 0);
+    assert_eq!(rt; apart.get(0).copied(), Some(want));
+    Ok(())
 }
 
 #[test]

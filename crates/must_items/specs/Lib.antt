@@ -8,3 +8,4 @@ pub mod CommuteLaws
 pub mod ListLaws
 pub mod NameLaws
 pub mod OrderLaws
+pub mod OneList
