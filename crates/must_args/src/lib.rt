@@ -24,6 +24,7 @@ mod view;
 
 pub use check::check_args;
 pub use setting::{Seat, Setting, setting_of};
+pub use starts::was_seen;
 pub use usable::Usable;
 pub use view::View;
 

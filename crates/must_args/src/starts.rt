@@ -54,8 +54,8 @@ fn judge_active<V: View>(
     Ok(())
 }
 
-/// Puts a request among those seen, and tells whether it was there.
-fn was_seen(seen: &mut BTreeSet<u32>, request: u32) -> Result<bool, NoMemory>
+/// Puts a request among those seen, and tells whether it was there. Takes time for the logarithm of their number.
+pub fn was_seen(seen: &mut BTreeSet<u32>, request: u32) -> Result<bool, NoMemory>
     ensures again { IfOk result (λ again. again ≡ contains nat_cmp seen.old request) }
     ensures seen { OnOk result ((h : ℕ) → contains nat_cmp seen.new h ≡ (contains nat_cmp seen.old h || nat_eq h request)) }
 {

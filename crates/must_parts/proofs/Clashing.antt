@@ -1,12 +1,10 @@
 -- The first clash with operations that are held.
-use Rattle.std.proofs.Common.{◌≡◌, ℕ, ◌<◌, ◌≤◌, Bool, true, false, ◌||◌, ◌&&◌, ◌⊎◌, inl, inr, List, [], ◌∷◌, ◌++◌, Option, Some, None, refl, sym, ap, subst, ◌∙◌, arith, map, take, ◌-◌, append_assoc, append-nil}
+use Rattle.std.proofs.Common.{◌≡◌, ℕ, Bool, true, false, ◌||◌, ◌&&◌, ◌⊎◌, inl, inr, List, [], ◌∷◌, ◌++◌, Option, Some, None, refl, sym, ap, subst, ◌∙◌, arith, map, take, ◌-◌, append_assoc, append-nil}
 use Rattle.std.specs.Prelude.{if◌then◌else◌, ℤ, ◌≤ℤ◌, ◌<ℤ◌, int_lt, nat_lt, ◌==◌}
 use Rattle.std.specs.Option.{option_map, option_to_list, MatchOption}
 use Rattle.std.proofs.lemmas.List.{map-append}
 use Rattle.std.proofs.lemmas.Int.{ints}
-use Rattle.must_type.specs.Maps.{Entry}
 use Rattle.must_span.specs.declared.ranges.AddressRange.{AddressRange}
-use Rattle.must_span.specs.Ranges.{Covers}
 use Rattle.must_span.specs.Bytes as bytes
 use Rattle.must_span.specs.Bytes.{AreBytes}
 use Rattle.must_pending.specs.declared.access.Access.{Access}
@@ -17,11 +15,10 @@ use Rattle.must_rules.specs.Parts.{Part, entries_of}
 use Rattle.must_rules.specs.Overlaps.{least_shared}
 use Rattle.must_rules.specs.PendingOperations.{Operation, disagree, clash_with, is_before, earlier_of, first_clash, clash_answer, clash_of, operation}
 use Rattle.must_parts.specs.Firsts.{IsFirstOf}
-use Rattle.must_parts.specs.Matching.{Matched}
 use Rattle.must_parts.specs.Holding.{Holds, AreHeld}
 use Rattle.must_parts.specs.declared.placed.Placed.{Placed}
 use Rattle.must_parts.specs.Placing.{IsPlaced, IsPlacedOf, ArePlaced}
-use Rattle.must_parts.proofs.Matching.{Last, matched_append, matched_last, matched_none}
+use Rattle.must_parts.proofs.Matching.{matched_append, matched_last, matched_none}
 use Rattle.must_parts.proofs.Shared.{shared_first}
 
 -- ---- one clash at the most

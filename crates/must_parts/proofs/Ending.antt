@@ -6,7 +6,6 @@ use Rattle.std.specs.Option.{option_to_list}
 use Rattle.std.proofs.lemmas.List.{take_more}
 use Rattle.std.proofs.lemmas.List.Elements.{filter_map-append}
 use Rattle.std.proofs.lemmas.List.Folds.{list_any-append}
-use Rattle.must_call.specs.declared.class.Class.{Class}
 use Rattle.must_call.specs.declared.class.Class.TheVariants.{Comm, Group, Datatype, Operation, Request}
 use Rattle.must_call.specs.declared.items.Completion.{Completion}
 use Rattle.must_call.specs.declared.call.Call.{Call}
@@ -18,7 +17,6 @@ use Rattle.must_rules.specs.Making.{is_in, same_class, is_handle, picked, freed_
 use Rattle.must_rules.specs.Lives.{ends}
 use Rattle.must_rules.specs.PendingOperations as pending
 use Rattle.must_rules.specs.PendingOperations.{left_by}
-use Rattle.must_parts.specs.Matching.{Matched}
 use Rattle.must_parts.specs.Holding.{Holds, AreHeld}
 use Rattle.must_parts.specs.Ending.{left, requests_freed, completed_in, freed_in}
 
@@ -39,7 +37,7 @@ or_false : (b : Bool) → b ≡ (b || false)
 or_false true = refl
 or_false false = refl
 
-same_number : (m n : ℕ) → nat_eq n m ≡ (m == n)
+pub same_number : (m n : ℕ) → nat_eq n m ≡ (m == n)
 same_number m n = at (m == n) (nat_eq n m) refl refl
   where
     at : (a b : Bool) → (m == n) ≡ a → nat_eq n m ≡ b → b ≡ a
@@ -48,7 +46,7 @@ same_number m n = at (m == n) (nat_eq n m) refl refl
     at true false p q = grind arith
     at false true p q = grind arith
 
-same_test : (m n : ℕ) → nat_eq n m ≡ is_in (m ∷ []) n
+pub same_test : (m n : ℕ) → nat_eq n m ≡ is_in (m ∷ []) n
 same_test m n = same_number m n ∙ or_false (m == n)
 
 pub none_left : (hs : List Held) → hs ≡ left [] hs
@@ -87,7 +85,7 @@ completes_is : (b : Bool) (body : Body) (n : ℕ) → (b && (same_class Request 
 completes_is true body n = refl
 completes_is false body n = refl
 
-frees_is : (b : Bool) (o : Option ClassedHandle) (n : ℕ) → (b && is_handle Request n o) ≡ is_in (if b then requests_freed o else []) n
+pub frees_is : (b : Bool) (o : Option ClassedHandle) (n : ℕ) → (b && is_handle Request n o) ≡ is_in (if b then requests_freed o else []) n
 frees_is false o n = refl
 frees_is true None n = refl
 frees_is true (Some (Comm, r)) n = refl

@@ -1,5 +1,5 @@
 -- The parts of a call, field by field.
-use Rattle.std.proofs.Common.{◌≡◌, ℕ, ◌+◌, ◌<◌, ◌≤◌, List, [], ◌∷◌, ◌++◌, map, length, take, get_or, Option, Some, None, refl, sym, ap, subst, ◌∙◌, arith}
+use Rattle.std.proofs.Common.{◌≡◌, ℕ, ◌+◌, ◌<◌, List, [], ◌∷◌, ◌++◌, map, length, take, get_or, Option, Some, None, refl, sym, ap, subst, ◌∙◌, arith}
 use Rattle.std.specs.Prelude.{filter_map, sum_by}
 use Rattle.std.specs.List.{cons_option}
 use Rattle.std.specs.Option.{option_to_list}
@@ -17,9 +17,8 @@ use Rattle.must_rules.specs.Parts as parts
 use Rattle.must_rules.specs.Parts.{Part, part_weight}
 use Rattle.must_parts.specs.declared.blocks.Block.{Block}
 use Rattle.must_parts.specs.declared.told.Told.{Told}
-use Rattle.must_parts.specs.Matching.{Matched}
 use Rattle.must_parts.specs.Telling.{block_seen, IsAlike, IsTold, IsToldOf, AreTold}
-use Rattle.must_parts.proofs.Matching.{Item, matched_append, matched_option, matched_item}
+use Rattle.must_parts.proofs.Matching.{matched_append, matched_option, matched_item}
 
 one_of : {X Y : Type 0} (f : X → Option Y) (x : X) → filter_map f (x ∷ []) ≡ option_to_list (f x)
 one_of {Y = Y} f x = at (f x)

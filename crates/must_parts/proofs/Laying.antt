@@ -1,5 +1,5 @@
 -- What is laid out, block by block.
-use Rattle.std.proofs.Common.{◌≡◌, ℕ, ◌<◌, Bool, true, false, ◌||◌, ◌⊎◌, inl, inr, ◌↔◌, List, [], ◌∷◌, ◌++◌, flat_map, take, drop, Option, Some, None, refl, sym, ap, subst, ◌∙◌, arith}
+use Rattle.std.proofs.Common.{◌≡◌, ℕ, ◌<◌, Bool, true, false, ◌||◌, ◌⊎◌, inl, inr, ◌↔◌, List, [], ◌∷◌, ◌++◌, flat_map, take, drop, refl, sym, ap, subst, ◌∙◌, arith}
 use Rattle.std.specs.Prelude.{ℤ, nat_lt}
 use Rattle.std.specs.List.{list_any}
 use Rattle.std.proofs.lemmas.Grind.{flat_map-append}
@@ -9,7 +9,7 @@ use Rattle.must_type.specs.Maps.{Entry}
 use Rattle.must_type.specs.Tree.{TypeTree}
 use Rattle.must_span.specs.declared.ranges.AddressRange.{AddressRange}
 use Rattle.must_span.specs.Ranges.{Covers}
-use Rattle.must_span.specs.Bytes.{IsByte, Holds, AreBytes}
+use Rattle.must_span.specs.Bytes.{Holds, AreBytes}
 use Rattle.must_rules.specs.Parts.{Block, block_map}
 use Rattle.must_rules.specs.Overlaps.{overlap}
 
@@ -63,3 +63,16 @@ lt_to r m n e h = let less : r < m = omega (arith, h, e) in grind arith
 
 pub halves : {X : Type 0} (xs front back : List X) (mid : ℕ) → front ≡ take mid xs → back ≡ drop mid xs → front ++ back ≡ xs
 halves {X = X} xs front back mid f b = ap (λ (l : List X). l ++ back) f ∙ ap (λ (l : List X). take mid xs ++ l) b ∙ take-append-drop mid xs
+
+-- ranges joined to none
+pub bytes_copied : (old other new : List AddressRange) (es : List Entry) → old ≡ [] → ((x : ℤ) → Covers new x ↔ (Covers old x ⊎ Covers other x)) → AreBytes other es → AreBytes new es
+bytes_copied old other new es none union are = λ x. (there x, back x)
+  where
+    none_of : (x : ℤ) → Covers old x → ⊥
+    none_of x h = subst (λ (l : List AddressRange). Covers l x) none h
+
+    there : (x : ℤ) → Covers new x → Holds es x
+    there x h = elim ((union x).0 h) [ inl a ↦ absurd (none_of x a) | inr b ↦ (are x).0 b ]
+
+    back : (x : ℤ) → Holds es x → Covers new x
+    back x h = (union x).1 (inr ((are x).1 h))

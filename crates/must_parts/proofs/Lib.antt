@@ -10,3 +10,6 @@ pub mod Rows
 pub mod Ending
 pub mod Taking
 pub mod Worked
+pub mod Keeping
+pub mod Starting
+pub mod Handing

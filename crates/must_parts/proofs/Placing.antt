@@ -1,23 +1,22 @@
 -- Parts that are laid out, one by one.
-use Rattle.std.proofs.Common.{◌≡◌, ℕ, ◌+◌, ◌<◌, ◌≤◌, Bool, true, false, nat_eq, List, [], ◌∷◌, ◌++◌, flat_map, length, take, drop, get_or, Option, Some, None, refl, sym, ap, subst, ◌∙◌, arith}
+use Rattle.std.proofs.Common.{◌≡◌, ℕ, ◌+◌, ◌<◌, ◌≤◌, Bool, true, false, nat_eq, List, [], ◌∷◌, ◌++◌, flat_map, length, take, drop, get_or, Option, Some, None, sym, ap, subst, ◌∙◌, arith}
 use Rattle.std.specs.Prelude.{cond, ℤ}
 use Rattle.std.specs.List.{list_any}
 use Rattle.std.proofs.lemmas.List.{drop_all}
 use Rattle.must_type.specs.Maps.{Entry, block}
-use Rattle.must_type.specs.Tree.{TypeTree, type_map}
+use Rattle.must_type.specs.Tree.{TypeTree}
 use Rattle.must_span.specs.Ranges.{IsFirstShared}
 use Rattle.must_span.specs.Bytes.{AreBytes}
 use Rattle.must_rules.specs.Parts.{Block, Part, block_map, entries_of, numbered}
 use Rattle.must_rules.specs.Overlaps.{overlap, valued, shared_parts}
 use Rattle.must_parts.specs.declared.lay.Laid.{Laid}
 use Rattle.must_parts.specs.declared.placed.Placed.{Placed}
-use Rattle.must_parts.specs.Matching.{Matched}
 use Rattle.must_parts.specs.declared.told.Told.{Told}
 use Rattle.must_parts.specs.Telling.{IsAlike, IsTold, AreTold}
 use Rattle.must_parts.specs.Laying.{IsLaid}
 use Rattle.must_parts.specs.Placing.{IsPlaced, IsPlacedOf, ArePlaced}
 use Rattle.must_parts.proofs.Shared.{shared_is}
-use Rattle.must_parts.proofs.Matching.{Item, matched_append, matched_item, matched_length}
+use Rattle.must_parts.proofs.Matching.{matched_append, matched_item, matched_length}
 
 maps : List Entry → Block → List Entry
 maps m b = block b.count m b.address

@@ -1,7 +1,6 @@
 -- The rows of parts.
-use Rattle.std.proofs.Common.{◌≡◌, ℕ, zero, suc, ◌<◌, Bool, true, false, nat_eq, ◌⊎◌, inl, inr, ◌↔◌, List, [], ◌∷◌, Option, Some, None, refl, sym, ap, subst, ◌∙◌, arith}
+use Rattle.std.proofs.Common.{◌≡◌, ℕ, zero, suc, Bool, false, nat_eq, ◌⊎◌, inl, inr, List, [], ◌∷◌, Option, Some, None, refl, sym, ap, subst, ◌∙◌, arith}
 use Rattle.std.specs.Prelude.{cond, ◌==◌}
-use Rattle.std.specs.List.{AllByRecursion}
 use Rattle.must_base.specs.Listing.{Has}
 use Rattle.must_call.specs.declared.place.Place.{Place}
 use Rattle.must_find.specs.declared.rule.Rule.{Rule}
@@ -20,7 +19,7 @@ no_such (p ∷ ps) n h =
     let other : nat_eq p.number (suc (suc n)) ≡ false = grind arith in
     ap (λ b. cond b (Some p) (numbered (suc (suc n)) ps)) other ∙ no_such ps n h.1
 
-none_is_not : (o : Option Answer) (x : Answer) → o ≡ None → o ≡ Some x → ⊥
+pub none_is_not : (o : Option Answer) (x : Answer) → o ≡ None → o ≡ Some x → ⊥
 none_is_not None x e h = let bad : ◌≡◌ {A = Option Answer} None (Some x) = h in absurd cc
 none_is_not (Some y) x e h = let bad : ◌≡◌ {A = Option Answer} (Some y) None = e in absurd cc
 

@@ -1,5 +1,5 @@
 -- Addresses that entries have in common, and those that ranges have.
-use Rattle.std.proofs.Common.{◌≡◌, ℕ, zero, suc, ◌+◌, ◌<◌, Bool, true, false, ◌||◌, ◌⊎◌, inl, inr, ◌↔◌, List, [], ◌∷◌, ◌++◌, Option, Some, None, refl, sym, ap, subst, ◌∙◌, arith}
+use Rattle.std.proofs.Common.{◌≡◌, ℕ, zero, suc, ◌<◌, Bool, true, false, ◌||◌, ◌⊎◌, inl, inr, ◌↔◌, List, [], ◌∷◌, Option, Some, None, refl, sym, ap, subst, arith}
 use Rattle.std.specs.Prelude.{if◌then◌else◌, ℤ, pos, ◌+ℤ◌, ◌≤ℤ◌, ◌<ℤ◌, int_lt, is_some, slice_get}
 use Rattle.std.specs.Int.{int_min, int_max}
 use Rattle.std.proofs.lemmas.Int.{ints, clamps}
@@ -9,7 +9,7 @@ use Rattle.must_span.specs.declared.ranges.AddressRange.{AddressRange}
 use Rattle.must_span.specs.Ranges.{Covers, IsFirstShared}
 use Rattle.must_span.specs.Bytes.{IsByte, Holds, AreBytes, ShareByte}
 use Rattle.must_rules.specs.Overlaps.{first_from, shared_by, lesser, shared_with, least_shared, overlap}
-use Rattle.must_parts.specs.Firsts.{IsLeast, IsFirstOf}
+use Rattle.must_parts.specs.Firsts.{IsFirstOf}
 
 -- ---- comparing
 

@@ -1,8 +1,8 @@
 -- What a call does to what is pending.
-use Rattle.std.proofs.Common.{◌≡◌, ℕ, zero, suc, ◌+◌, ◌<◌, Bool, true, false, cond, ◌&&◌, List, [], ◌∷◌, ◌++◌, map, length, take, reverse, Option, Some, None, refl, sym, ap, subst, ◌∙◌, arith, append_assoc, append-nil}
+use Rattle.std.proofs.Common.{◌≡◌, ℕ, ◌+◌, ◌<◌, Bool, true, false, List, [], ◌∷◌, ◌++◌, length, take, reverse, Option, Some, None, refl, sym, ap, ◌∙◌, arith, append-nil}
 use Rattle.std.specs.Prelude.{nat_lt, if◌then◌else◌, filter_map, sum_by, is_some, slice_get}
-use Rattle.std.specs.List.{AllByRecursion, cons_option}
-use Rattle.std.proofs.lemmas.List.{reverse-append, reverse-reverse, length-reverse}
+use Rattle.std.specs.List.{cons_option}
+use Rattle.std.proofs.lemmas.List.{reverse-append, reverse-reverse}
 use Rattle.std.proofs.lemmas.List.Sums.{sum_by-cons}
 use Rattle.must_call.specs.declared.field.Side.{Side}
 use Rattle.must_call.specs.declared.field.Side.TheVariants.{Send, Receive, Both}
@@ -14,7 +14,6 @@ use Rattle.must_call.specs.declared.persist.Persist.TheVariants.{SendInit, Ssend
 use Rattle.must_call.specs.declared.call.Call.{Call}
 use Rattle.must_call.specs.Values.{Value, Typed}
 use Rattle.must_call.specs.Bodies.{inputs_of}
-use Rattle.must_format.specs.declared.cause.Limit.{Limit}
 use Rattle.must_format.specs.declared.cause.Limit.TheVariants as limit
 use Rattle.must_type.specs.Tree.{TypeTree}
 use Rattle.must_pending.specs.declared.held.Held.{Held}
@@ -30,7 +29,7 @@ use Rattle.must_rules.specs.Making.{is_persistent_kind, persists, made_by, start
 use Rattle.must_rules.specs.Starts.{is_start_kind}
 use Rattle.must_rules.specs.Parts.{Part, part_at, part_told, with_both, datatype_of, parts_of, numbered, part_weight}
 use Rattle.must_rules.specs.PendingOperations.{Operation, parts_behind, request_in, begun_request, begun_with, started, started_from, started_below, started_at, begun, left_by, pending_by, pending, clash_of, pending_clash, operations_weight, most_pending, pending_weight, pending_limit_at}
-use Rattle.must_parts.specs.Holding.{Holds, AreHeld}
+use Rattle.must_parts.specs.Holding.{AreHeld}
 use Rattle.must_parts.specs.Rows.{HaveNumbers}
 
 -- ---- the numbers of parts
@@ -79,7 +78,7 @@ started_none r calls call e = ap (started_from r calls call 0) (starts_none call
 
 -- ---- what is pending
 
-pending_more : (r : Rank) (calls : List Call) (call : Call) → pending r (calls ++ call ∷ []) ≡ left_by call (pending r calls) ++ begun r calls call
+pub pending_more : (r : Rank) (calls : List Call) (call : Call) → pending r (calls ++ call ∷ []) ≡ left_by call (pending r calls) ++ begun r calls call
 unfolding pending
 pending_more r calls call =
     ap (pending_by r) (reverse-append calls (call ∷ []))
@@ -99,7 +98,7 @@ pending_plain r calls call k len e =
 
 -- ---- weights
 
-held_weight : (hs : List Held) (ops : List Operation) → AreHeld hs ops → weight_of hs ≡ operations_weight ops
+pub held_weight : (hs : List Held) (ops : List Operation) → AreHeld hs ops → weight_of hs ≡ operations_weight ops
 held_weight [] [] m = refl
 held_weight [] (o ∷ ops) m = absurd m
 held_weight (h ∷ hs) [] m = absurd m

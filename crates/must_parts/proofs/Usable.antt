@@ -1,5 +1,5 @@
 -- Which buffers are usable, and what their types are in the table.
-use Rattle.std.proofs.Common.{◌≡◌, ℕ, zero, suc, ◌+◌, ◌<◌, Bool, true, false, ◌&&◌, ◌||◌, List, [], ◌∷◌, length, Option, Some, None, refl, sym, ap, subst, ◌∙◌, arith, nat_eq}
+use Rattle.std.proofs.Common.{◌≡◌, ℕ, ◌+◌, Bool, true, false, ◌&&◌, ◌||◌, List, Option, Some, None, refl, sym, ap, subst, ◌∙◌, nat_eq}
 use Rattle.std.specs.Prelude.{nat_le, if◌then◌else◌, is_some, ℤ}
 use Rattle.std.specs.Option.{IsSome, option_map}
 use Rattle.must_call.specs.declared.life.Life.{Life}
@@ -21,7 +21,6 @@ use Rattle.must_rules.specs.Parts.{Part, Layout, with_both, part_at, part_told, 
 use Rattle.must_derived.specs.Standing.{Fits, Suits}
 use Rattle.must_parts.specs.declared.scope.Seats.{Seats}
 use Rattle.must_parts.specs.Scopes.{seats_of}
-use Rattle.must_parts.specs.Matching.{MatchedOption}
 use Rattle.must_parts.specs.Telling.{IsAlike, IsTold, IsToldOf}
 use Rattle.must_parts.specs.declared.told.Told.{Told}
 

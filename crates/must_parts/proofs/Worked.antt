@@ -1,6 +1,6 @@
 -- Worked calls: their parts, and what overlaps in them.
 use Rattle.std.proofs.Common.{refl}
-use Rattle.std.specs.Prelude.{◌≡◌, ℕ, ℤ, pos, true, false, List, [], ◌∷◌, length, map, Option, Some, None}
+use Rattle.std.specs.Prelude.{◌≡◌, ℕ, ℤ, pos, true, false, [], ◌∷◌, Option, Some, None}
 use Rattle.must_call.specs.declared.basic.Basic.TheVariants.{Int}
 use Rattle.must_call.specs.declared.life.Life.TheVariants.{Live}
 use Rattle.must_call.specs.declared.items.Amount.{Amount}
@@ -10,7 +10,7 @@ use Rattle.must_call.specs.declared.collective.Collective.TheVariants.{Bcast, Ga
 use Rattle.must_type.specs.Maps.{block, lower, upper, extent}
 use Rattle.must_type.specs.Tree.{TypeTree, Elementary}
 use Rattle.must_pending.specs.declared.access.Access.TheVariants.{Reads, Writes}
-use Rattle.must_rules.specs.Facts.{Facts, Comm}
+use Rattle.must_rules.specs.Facts.{Facts}
 use Rattle.must_rules.specs.Parts.{Block, parts_of, entries_of}
 use Rattle.must_rules.specs.Overlaps.{least_shared, overlap_between}
 

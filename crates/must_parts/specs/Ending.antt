@@ -1,5 +1,5 @@
 -- The requests whose operations a call ends.
-use Rattle.std.specs.Prelude.{ℕ, not, filter, if◌then◌else◌, List, [], ◌∷◌, Option, Some, None}
+use Rattle.std.specs.Prelude.{ℕ, not, filter, if◌then◌else◌, List, [], ◌∷◌, Option, Some}
 use Rattle.must_call.specs.declared.class.Class.TheVariants.{Request}
 use Rattle.must_call.specs.declared.call.Call.{Call}
 use Rattle.must_call.specs.Handles.{ClassedHandle}

@@ -7,3 +7,7 @@ pub mod Placing
 pub mod Rows
 pub mod Holding
 pub mod Ending
+pub mod Keeping
+pub mod Starting
+pub mod Standing
+pub mod Persistence

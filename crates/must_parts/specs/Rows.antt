@@ -1,5 +1,5 @@
 -- The rows that the parts of a call give.
-use Rattle.std.specs.Prelude.{◌≡◌, ◌⊎◌, ℕ, suc, ◌<◌, List, Option, Some}
+use Rattle.std.specs.Prelude.{◌≡◌, ◌⊎◌, ℕ, ◌<◌, Bool, true, List, Option, Some}
 use Rattle.std.specs.List.{AllByRecursion}
 use Rattle.must_call.specs.declared.place.Place.{Place}
 use Rattle.must_call.specs.declared.call.Call.{Call}
@@ -39,3 +39,8 @@ BufferRows at r earlier call f = OverlapRows at (parts_behind r earlier call) f 
 abbrev pub IsPendingLimit : Option Limit → BuffersFault → Type 0
 IsPendingLimit reached TooWide = reached ≡ Some PendingWeight
 IsPendingLimit reached NoMemory = Unit {0}
+
+-- the same where it is told whether the limit is reached
+abbrev pub IsWide : (wide : Bool) → BuffersFault → Type 0
+IsWide wide TooWide = wide ≡ true
+IsWide wide NoMemory = Unit {0}

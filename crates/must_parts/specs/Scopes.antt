@@ -1,5 +1,5 @@
 -- What is known of a call beside the fields of its buffers: worked out once a call.
-use Rattle.std.specs.Prelude.{◌≡◌, ℕ, ℤ, pos, Bool, false, Option, Some, None, option_map, length}
+use Rattle.std.specs.Prelude.{◌≡◌, ℕ, ℤ, pos, Bool, false, Option, Some, None, option_map}
 use Rattle.std.specs.Ordering.{int_eq}
 use Rattle.must_call.specs.declared.body.Body.{Body}
 use Rattle.must_call.specs.Kinds.{kind_of}

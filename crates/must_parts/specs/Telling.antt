@@ -1,5 +1,5 @@
 -- What the code tells of parts, and the parts that this stands for.
-use Rattle.std.specs.Prelude.{◌≡◌, ℕ, pos, Bool, List, [], ◌∷◌, map, Option, Some, None}
+use Rattle.std.specs.Prelude.{◌≡◌, ℕ, pos, Bool, List, map, Option, Some}
 use Rattle.std.specs.Option.{option_map}
 use Rattle.must_type.specs.Tree.{TypeTree, type_map, weight}
 use Rattle.must_type.specs.Table.{tree_at}
@@ -57,3 +57,8 @@ pub record Sees (r : Rank) (calls : List Call) (facts : Facts) (sound : ℕ → 
   pub sound_are : sound ≡ sound_type (clear_behind r) calls
   pub starts_are : starts ≡ start_of (clear_behind r) calls
   pub stands : Stands (clear_behind r) types calls
+
+-- the same without its types
+pub record SeesStarts (r : Rank) (calls : List Call) (facts : Facts) (starts : StartOf) : Type 0 where
+  pub facts_are : facts ≡ facts_of r calls
+  pub starts_are : starts ≡ start_of (clear_behind r) calls

@@ -3,37 +3,35 @@
 //!
 //! A part is told by what the fields of the call are for. What the rank knows of its communicators comes by a
 //! [`View`](must_args::View), and the types that its handles stand for by [`Datatypes`](must_derived::Datatypes).
-//! [`take_plain`] takes a call of any kind but those of persistent requests; the other calls are its steps.
+//! [`Buffers::take`] takes a call of any kind; the other functions are its steps.
 //!
 //! # Cost
 //!
 //! A part takes time for the fields of its call, and laying it out for the weights of its blocks, up to a logarithm: the blocks of
 //! a list by member are joined by halves. The weights are judged before anything is laid out. Looking for clashes takes what
-//! must_pending's `clash` takes, and ending an operation what its `finish` takes.
+//! must_pending's `clash` takes, and ending an operation what its `finish` takes. The part of a persistent request is kept as
+//! long as the request lives, and laid out once: each start copies its ranges.
 #![tactic(auto)]
 
 mod begin;
 mod blocks;
+mod buffers;
 mod clashes;
 mod fault;
 mod finish;
+mod kept;
 mod lay;
 mod overlaps;
 mod placed;
 mod roles;
 mod scope;
+mod start;
 mod take;
 mod told;
 mod weigh;
 
-pub use begin::begin_all;
-pub use blocks::Block;
-pub use clashes::add_clashes;
+pub use buffers::Buffers;
 pub use fault::BuffersFault;
-pub use finish::finish_call;
-pub use lay::Laid;
-pub use overlaps::add_overlaps;
-pub use placed::{Placed, numbered, place_parts};
-pub use take::{take_init, take_plain};
-pub use told::{Told, told_parts};
-pub use weigh::weight_of;
+
+#[cfg(test)]
+mod tests;

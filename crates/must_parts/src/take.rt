@@ -34,15 +34,25 @@ use std::alloc::Global;
 /// The greatest sum of the weights of what is pending in a whole run.
 const MOST_PENDING: u128 = 0x400_0000;
 
+/// The greatest sum of weights at a rank of a run of so many.
+fn most_pending(size: u32) -> u128
+    ensures { result ≡ most_pending size }
+{
+    if size == 0 {
+        0
+    } else {
+        MOST_PENDING / u128::from(size)
+    }
+}
+
 /// Whether these weights are too great together at a rank of a run of so many.
-fn is_too_wide(size: u32, held: u64, own: u128) -> Result<bool, NoMemory>
-    requires { 1 ≤ size }
+pub(crate) fn is_too_wide(size: u32, held: u64, own: u128) -> Result<bool, NoMemory>
     ensures { IfOk result (λ wide. wide ≡ nat_lt (most_pending size) (held + own)) }
 {
     let Some(sum) = own.checked_add(u128::from(held)) else {
         return Err(NoMemory);
     };
-    Ok(MOST_PENDING / u128::from(size) < sum)
+    Ok(most_pending(size) < sum)
 }
 
 /// Begins the operations of a call that makes this handle, if it is a request.
@@ -60,9 +70,10 @@ fn begin_made(
     }
 }
 
-/// Takes a call of any kind but those of persistent requests: adds its rows of T1, T2 and T3, and then ends and begins operations.
-/// `usable` has a bit for each usable part, as `check_args` answers it, and `size` is the number of ranks. `TooWide` comes exactly where
-/// the call reaches the limit of the weights that are pending, before anything is laid out; the operations aren't to be used any more then.
+/// Takes a call of any kind but those of persistent requests: adds its rows of T1, T2 and T3, and then ends and begins
+/// operations. `usable` has a bit for each usable part, as `check_args` answers it, and `size` is the number of ranks. `TooWide`
+/// comes exactly where the call reaches the limit of the weights that are pending, before anything is laid out; the operations
+/// aren't to be used any more then.
 pub fn take_plain<V: View>(
     pending: &mut Pending,
     alloc: Global,
@@ -74,7 +85,6 @@ pub fn take_plain<V: View>(
     usable: u8,
     rows: &mut Findings,
 ) -> Result<(), BuffersFault>
-    requires size { 1 ≤ size }
     requires usable { usable ≡ usable_parts (V.facts view.now) (V.sound view.now) call.now.body }
     requires plain { is_persistent_kind call.now.body ≡ false }
     ensures rows { OnOk result ((r : Rank) (calls : List Call) → r.rank ≡ at.rank → length calls ≡ at.call → Sees r calls (V.facts view.now) (V.sound view.now) (V.starts view.now) types.now → AreHeld pending.old (pending_behind r calls) → Adds rows.old rows.new (BufferRows at r calls call.now)) }
@@ -95,8 +105,8 @@ pub fn take_plain<V: View>(
     Ok(())
 }
 
-/// Takes a call that makes a persistent request, and answers its parts, for when the request is started: adds its rows of T1. It begins
-/// nothing. The rest is as in [`take_plain`].
+/// Takes a call that makes a persistent request, and answers its parts, for when the request is started: adds its rows of T1.
+/// It begins nothing. The rest is as in [`take_plain`].
 pub fn take_init<V: View>(
     pending: &mut Pending,
     alloc: Global,
@@ -108,7 +118,6 @@ pub fn take_init<V: View>(
     usable: u8,
     rows: &mut Findings,
 ) -> Result<Vec<Placed>, BuffersFault>
-    requires size { 1 ≤ size }
     requires usable { usable ≡ usable_parts (V.facts view.now) (V.sound view.now) call.now.body }
     requires init { (is_persistent_kind call.now.body ≡ true) × (is_start_kind call.now.body ≡ false) }
     ensures rows { OnOk result ((r : Rank) (calls : List Call) → r.rank ≡ at.rank → length calls ≡ at.call → Sees r calls (V.facts view.now) (V.sound view.now) (V.starts view.now) types.now → Adds rows.old rows.new (BufferRows at r calls call.now)) }

@@ -1,6 +1,3 @@
-use Rattle.std.proofs.Common.{List, subst, sym}
-use Rattle.must_rules.specs.Parts.{Part}
-use Rattle.must_parts.specs.Placing.{ArePlaced}
 use Rattle.must_parts.proofs.Clashing.{no_items, last_items, begun_none, begun_last}
 use Rattle.must_parts.proofs.begin.+begin_all.Goals as goal
 

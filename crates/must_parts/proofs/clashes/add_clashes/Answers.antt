@@ -1,4 +1,4 @@
-use Rattle.std.proofs.Common.{ap, subst, Option}
+use Rattle.std.proofs.Common.{ap}
 use Rattle.must_find.specs.declared.rule.Rule.TheVariants.{T3}
 use Rattle.must_rules.specs.Parts.{numbered}
 use Rattle.must_rules.specs.PendingOperations.{clash_of}

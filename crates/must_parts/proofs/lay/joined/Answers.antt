@@ -1,5 +1,5 @@
-use Rattle.std.proofs.Common.{ap, sym, ◌∙◌, ◌||◌}
-use Rattle.must_parts.proofs.Laying.{bytes_joined, overlaps_joined, both_either}
+use Rattle.std.proofs.Common.{◌∙◌}
+use Rattle.must_parts.proofs.Laying.{bytes_joined, both_either}
 use Rattle.must_parts.proofs.lay.joined.Goals as goal
 
 pub returns : goal.returns

@@ -1,6 +1,3 @@
-use Rattle.std.proofs.Common.{◌≡◌, List, Option, None, ap, sym, subst, ◌∙◌}
-use Rattle.must_rules.specs.Parts.{Part, numbered}
-use Rattle.must_parts.specs.Placing.{IsPlaced, IsPlacedOf}
 use Rattle.must_parts.proofs.Placing.{numbered_here, numbered_next, numbered_none}
 use Rattle.must_parts.proofs.placed.numbered.Goals as goal
 

@@ -1,4 +1,4 @@
-use Rattle.std.proofs.Common.{◌≡◌, map, ap, ◌∙◌}
+use Rattle.std.proofs.Common.{map, ap, ◌∙◌}
 use Rattle.must_parts.specs.Telling.{block_seen}
 use Rattle.must_parts.proofs.Placing.{laid_alike}
 use Rattle.must_parts.proofs.placed.place.Goals as goal

@@ -1,20 +1,15 @@
-use mathlib.Core.Path.{fun_ext}
-use Rattle.std.proofs.Common.{◌≡◌, ℕ, ◌+◌, ◌++◌, Bool, List, Option, Some, None, ap, sym, subst, ◌∙◌}
+use Rattle.std.proofs.Common.{◌+◌, Bool, List, Some, None, ap, sym, subst, ◌∙◌}
 use Rattle.std.specs.Prelude.{nat_lt, if◌then◌else◌}
-use Rattle.must_call.specs.Handles.{ClassedHandle}
 use Rattle.must_format.specs.declared.cause.Limit.TheVariants.{PendingWeight}
 use Rattle.must_type.specs.Table.{Types}
 use Rattle.must_find.specs.declared.rule.Rule.TheVariants.{T3}
-use Rattle.must_find.specs.Adds.{Adds}
-use Rattle.must_rules.specs.Answer.{Answer}
-use Rattle.must_rules.specs.Parts.{numbered}
-use Rattle.must_rules.specs.PendingOperations.{Operation, parts_behind, pending, begun_with, request_in, left_by, most_pending, clash_of, pending_clash}
+use Rattle.must_rules.specs.PendingOperations.{Operation, parts_behind, pending, most_pending, pending_clash}
 use Rattle.must_parts.specs.declared.told.Told.{Told}
 use Rattle.must_parts.specs.declared.placed.Placed.{Placed}
 use Rattle.must_parts.specs.Telling.{AreTold}
 use Rattle.must_parts.specs.Placing.{ArePlaced}
 use Rattle.must_parts.specs.Holding.{AreHeld}
-use Rattle.must_parts.specs.Rows.{IsOfRule, OverlapRows}
+use Rattle.must_parts.specs.Rows.{OverlapRows}
 use Rattle.must_parts.proofs.Rows.{with_none}
 use Rattle.must_parts.proofs.Taking.{low_parts, init_starts, limit_plain, clash_init, pending_init}
 use Rattle.must_parts.proofs.take.take_init.Goals as goal

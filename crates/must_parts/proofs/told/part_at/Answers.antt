@@ -1,5 +1,5 @@
-use Rattle.std.proofs.Common.{◌≡◌, ℕ, Bool, ap, sym, ◌∙◌, arith, to_z, of_z}
-use Rattle.std.specs.Prelude.{ℤ, pos, if◌then◌else◌}
+use Rattle.std.proofs.Common.{◌≡◌, Bool, ap, ◌∙◌, arith, to_z, of_z}
+use Rattle.std.specs.Prelude.{pos, if◌then◌else◌}
 use Rattle.std.specs.Int.{w128}
 use Rattle.std.proofs.lemmas.Int.{ints}
 use Rattle.must_call.specs.Arguments.{all_seen}
@@ -9,7 +9,6 @@ use Rattle.must_type.specs.Maps.{extent}
 use Rattle.must_type.specs.Tree.{type_map}
 use Rattle.must_type.specs.Facts.{bounds_of}
 use Rattle.must_type.specs.declared.bounds.Bounds.{Bounds}
-use Rattle.must_rules.specs.Significant.{is_receive}
 use Rattle.must_rules.specs.Breaches.{part_of}
 use Rattle.must_rules.specs.Parts.{Layout, access_at, is_for_each, blocks_at}
 use Rattle.must_parts.specs.declared.scope.Seats.{Seats}

@@ -1,7 +1,6 @@
-use Rattle.std.proofs.Common.{◌≡◌, ℕ, Bool, true, false, List, Option, Some, None, ap, sym, subst, ◌∙◌}
+use Rattle.std.proofs.Common.{◌≡◌, Option, Some, None, ap, sym, subst, ◌∙◌}
 use Rattle.must_call.specs.declared.class.Class.TheVariants.{Datatype}
 use Rattle.must_call.specs.declared.field.Field.TheVariants.{Buffer}
-use Rattle.must_call.specs.Arguments.{all_seen}
 use Rattle.must_call.specs.Bodies.{inputs_of}
 use Rattle.must_type.specs.declared.construct.TypeNo.{TypeNo}
 use Rattle.std.specs.Option.{IsSome}

@@ -1,4 +1,4 @@
-use Rattle.std.proofs.Common.{List, map, ap, subst}
+use Rattle.std.proofs.Common.{List, map, subst}
 use Rattle.std.specs.Prelude.{filter_map}
 use Rattle.std.proofs.lemmas.List.{take_all}
 use Rattle.must_call.specs.declared.argument.Argument.{Argument}

@@ -5,7 +5,7 @@ use Rattle.must_call.specs.Bodies.{inputs_of}
 use Rattle.must_call.specs.Values.{Typed}
 use Rattle.must_rules.specs.Facts.{Facts}
 use Rattle.must_rules.specs.Known.{facts_of, clear_behind}
-use Rattle.must_rules.specs.Types.{type_of, sound_type}
+use Rattle.must_rules.specs.Types.{type_of}
 use Rattle.must_rules.specs.UsableParts.{usable_parts}
 use Rattle.must_rules.specs.Parts.{parts_of, part_told}
 use Rattle.must_rules.specs.PendingOperations.{parts_behind}
