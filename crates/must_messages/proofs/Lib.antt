@@ -1,0 +1,5 @@
+pub mod WorkedCalls
+mod Worked
+mod WorkedStatuses
+mod WorkedNeeds
+mod WorkedRound
