@@ -7,8 +7,8 @@ use Rattle.must_find.specs.declared.severity.Severity.{Severity}
 use Rattle.must_find.specs.declared.severity.Severity.TheVariants.{Error, Warning, Off}
 use Rattle.must_find.specs.Rules.{code_of, all_rules, rule_place, usual_severity}
 use Rattle.must_find.specs.RuleSet.{severity_in}
-use Rattle.must_tree.specs.declared.plan.Sends.{Sends}
-use Rattle.must_tree.specs.declared.plan.Sends.TheVariants.{Strict, Buffered}
+use Rattle.must_plan.specs.declared.plan.Sends.{Sends}
+use Rattle.must_plan.specs.declared.plan.Sends.TheVariants.{Strict, Buffered}
 use Rattle.toml.specs.Data.{Data, Members, no_members, member, get_member, as_str, as_table}
 use Rattle.toml.specs.Parse.{parse_document}
 use Rattle.must_settings.specs.declared.settings.Settings.{Settings}

@@ -3,7 +3,7 @@
 ghost use Rattle.std.specs.Prelude.{◌≡◌, ◌≤◌, ◌++◌, ℕ, List, [], Some, None, Err, OnOk, IfOk, length};
 ghost use Rattle.std.specs.Io.KnownBytes.{Consumes, IsAtEnd};
 ghost use Rattle.must_base.specs.Causes.{Rose};
-ghost use Rattle.must_tree.specs.Told.{IsLeftOf};
+ghost use Rattle.must_settings.specs.Taking.{IsLeftOf};
 ghost use Rattle.must_settings.specs.declared.fault.RulesFault.TheVariants.{Read as FailedRead, Refused};
 ghost use Rattle.must_settings.specs.declared.read.TheConstants.{MOST_SETTINGS_BYTES};
 ghost use Rattle.must_settings.specs.RulesFile.{rules_file, Sets};

@@ -12,7 +12,7 @@ use crate::fault::SettingsFault;
 use crate::settings::Settings;
 use crate::values::{rule_of, sends_of, severity_of};
 use must_find::{Rule, RuleSet};
-use must_tree::Sends;
+use must_plan::Sends;
 use std::alloc::Global;
 use toml::{Table, Value};
 

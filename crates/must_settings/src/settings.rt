@@ -1,7 +1,7 @@
 //! Settings.
 
 use must_find::RuleSet;
-use must_tree::Sends;
+use must_plan::Sends;
 
 /// What a rules file sets.
 #[derive(Drop)]

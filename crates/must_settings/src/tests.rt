@@ -2,7 +2,7 @@
 
 use crate::{MOST_SETTINGS_BYTES, SettingsFault, read_settings};
 use must_find::{Rule, Severity};
-use must_tree::Sends;
+use must_plan::Sends;
 use std::alloc::Global;
 use std::process::Abort;
 use std::test::Fail;

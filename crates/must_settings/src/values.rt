@@ -5,7 +5,7 @@ ghost use Rattle.toml.specs.View.{view};
 ghost use Rattle.must_settings.specs.RulesFile.{severity_named, sends_by_name, sends_named as sends_in_text, rule_named};
 
 use must_find::{Rule, Severity};
-use must_tree::Sends;
+use must_plan::Sends;
 use toml::Value;
 
 /// The severity with this name.

@@ -3,7 +3,7 @@ use Rattle.std.specs.Prelude.{ℕ, zero, suc, ◌+◌, ◌-◌, ◌*◌, Bool, t
 use Rattle.std.specs.List.{list_all}
 use Rattle.std.specs.Str.{bytes_eq}
 use Rattle.must_format.specs.declared.limits.TheConstants.{MOST_RANKS}
-use Rattle.must_tree.specs.declared.plan.Sends.{Sends}
+use Rattle.must_plan.specs.declared.plan.Sends.{Sends}
 use Rattle.must_settings.specs.RulesFile.{sends_by_name}
 
 -- the options of a check: each stands at most once

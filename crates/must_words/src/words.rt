@@ -1,7 +1,7 @@
 //! What words ask for.
 
 use must_base::NameText;
-use must_tree::Sends;
+use must_plan::Sends;
 
 /// The options of a check.
 #[derive(Clone, Copy)]
