@@ -2,9 +2,10 @@
 use Rattle.std.specs.Prelude.{◌≡◌, ℕ, List, [], ◌++◌, ◌∷◌, length, map, drop, Option, Some, None, is_some, unwrap_or, IsTrue}
 use Rattle.must_base.specs.Views.{SourceView}
 use Rattle.must_find.specs.Rules.{usual_severities}
-use Rattle.must_tree.specs.Told.{HasFailed, IsLeftOf}
-use Rattle.must_tree.specs.declared.plan.Sends.{Sends}
-use Rattle.must_tree.specs.declared.plan.Sends.TheVariants.{Strict}
+use Rattle.must_tree.specs.Told.{HasFailed}
+use Rattle.must_settings.specs.Taking.{IsLeftOf}
+use Rattle.must_plan.specs.declared.plan.Sends.{Sends}
+use Rattle.must_plan.specs.declared.plan.Sends.TheVariants.{Strict}
 use Rattle.must_settings.specs.declared.settings.Settings.{Settings}
 use Rattle.must_settings.specs.RulesFile.{rules_file, Sets}
 use Rattle.must_words.specs.Command.{Check}

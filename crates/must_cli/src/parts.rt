@@ -11,8 +11,9 @@ ghost use Rattle.must_cli.specs.Parts.{ReadsRules, ReadsCheck, TiedCheck};
 use crate::bind::source_law;
 use must_base::Source;
 use must_find::{Findings, RuleSet};
+use must_plan::{Plan, Sends};
 use must_settings::{RulesFault, Settings, settings_of};
-use must_tree::{Plan, RunFault, Sends, analyse_serial};
+use must_tree::{RunFault, analyse_serial};
 use must_words::OptionWords;
 use std::alloc::Global;
 

@@ -2,8 +2,10 @@
 
 ghost use Rattle.std.specs.Prelude.{◌<◌, All, OnOk, IfOk};
 
+mod buffers;
 mod outputs;
 mod settings;
+mod waves;
 
 use crate::run::{run, serial_command};
 use crate::status::Status;

@@ -14,7 +14,7 @@ use Rattle.must_call.specs.declared.body.Body.{Body}
 use Rattle.must_call.specs.Handles.{ClassedHandle}
 use Rattle.must_rules.specs.Making.{made_by}
 use Rattle.must_format.specs.declared.cause.Limit.{Limit}
-use Rattle.must_rules.specs.Limits.{is_comm, parent_name, has_full_path, is_too_deep, path_limit, most_weight, made_limit, or_limit, type_limit_at, limit_at}
+use Rattle.must_rules.specs.Limits.{is_comm, parent_name, has_full_path, is_too_deep, path_limit, most_weight, made_limit, or_limit, type_limit_at, handle_limit_at}
 use Rattle.must_rules.specs.Types.{clear_type, type_of, types_weight}
 use Rattle.must_rules.specs.Rank.{Rank}
 use Rattle.must_rules.specs.Lives.{life, committed}
@@ -122,13 +122,13 @@ no_path true l e = refl
 no_path false l e = let bad : None ≡ Some l = e in absurd cc
 
 -- what a path is refused by is the call's limit
-pub path_over : (r : Rank) (calls : List Call) (call : Call) (k : ℕ) (f : WalkFault) → IsLimitAt k (path_limit (is_too_deep r calls call)) f → IsLimitAt k (limit_at r calls call) f
+pub path_over : (r : Rank) (calls : List Call) (call : Call) (k : ℕ) (f : WalkFault) → IsLimitAt k (path_limit (is_too_deep r calls call)) f → IsLimitAt k (handle_limit_at r calls call) f
 path_over r calls call k (walk_fault.TooWide at l) h =
     (h.0, ap (λ (o : Option Limit). or_limit o (path_limit (is_too_deep r calls call))) (deep_alone r calls call (no_path (is_too_deep r calls call) l h.1)) ∙ h.1)
 path_over r calls call k walk_fault.NoMemory h = tt
 
 -- what a type is refused by is the call's limit
-pub type_over : (r : Rank) (calls : List Call) (call : Call) (k : ℕ) (f : WalkFault) → IsLimitAt k (type_limit_at (most_weight r.size) (clear_behind r) calls call) f → IsLimitAt k (limit_at r calls call) f
+pub type_over : (r : Rank) (calls : List Call) (call : Call) (k : ℕ) (f : WalkFault) → IsLimitAt k (type_limit_at (most_weight r.size) (clear_behind r) calls call) f → IsLimitAt k (handle_limit_at r calls call) f
 type_over r calls call k (walk_fault.TooWide at l) h = (h.0, ap (λ (o : Option Limit). or_limit o (path_limit (is_too_deep r calls call))) h.1)
 type_over r calls call k walk_fault.NoMemory h = tt
 

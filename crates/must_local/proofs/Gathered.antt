@@ -2,6 +2,7 @@
 use Rattle.std.proofs.Common.{◌≡◌, ℕ, zero, suc, ◌+◌, ◌<◌, ◌≤◌, List, [], ◌∷◌, ◌++◌, length, take, get_or, Option, Some, None, refl, sym, ap, subst, ◌∙◌, inl, inr, arith, append_assoc}
 use Rattle.std.specs.Prelude.{◌⊎◌, slice_get}
 use Rattle.std.proofs.lemmas.List.{take_more}
+use Rattle.std.proofs.lemmas.List.Concat.{flat_map-append}
 use Rattle.std.specs.Option.{option_to_list}
 use Rattle.std.proofs.lemmas.Bool.{cases_eq}
 use Rattle.std.proofs.lemmas.Option.{slice_get_past}
@@ -20,7 +21,8 @@ use Rattle.must_local.specs.Adding.{IsOfRule, ClassRows, open_one}
 use Rattle.must_entry.specs.declared.entry.Entry.{Entry}
 use Rattle.must_entry.specs.declared.entry.Entry.TheVariants.{Row}
 use Rattle.must_coll.specs.declared.item.WaveItem.{WaveItem}
-use Rattle.must_entry.specs.Entries.{rows_of, call_of, calls}
+use Rattle.must_p2p.specs.declared.item.MsgItem.{MsgItem}
+use Rattle.must_entry.specs.Entries.{Waits, rows_of, message_of, messages, call_of, calls, need_of, needs}
 use Rattle.must_entry.specs.EntryLaws.{rows_append}
 
 pub rows_next : (xs : List Entry) (fs : List Finding) (i : ℕ) (d : Finding) → i < length fs → rows_of xs ≡ take i fs → rows_of (xs ++ Row (get_or fs i d) ∷ []) ≡ take (i + 1) fs
@@ -33,6 +35,13 @@ calls_append (x ∷ xs) ys = ap (λ (items : List WaveItem). call_of x ++ items)
 -- a row is no collective call
 pub calls_next : (xs : List Entry) (f : Finding) → calls xs ≡ [] → calls (xs ++ Row f ∷ []) ≡ []
 calls_next xs f e = calls_append xs (Row f ∷ []) ∙ ap (λ (items : List WaveItem). items ++ []) e
+
+-- nor a message or a need
+pub messages_next : (xs : List Entry) (f : Finding) → messages xs ≡ [] → messages (xs ++ Row f ∷ []) ≡ []
+messages_next xs f e = flat_map-append message_of xs (Row f ∷ []) ∙ ap (λ (items : List MsgItem). items ++ []) e
+
+pub needs_next : (xs : List Entry) (f : Finding) → needs xs ≡ [] → needs (xs ++ Row f ∷ []) ≡ []
+needs_next xs f e = flat_map-append need_of xs (Row f ∷ []) ∙ ap (λ (items : List Waits). items ++ []) e
 
 -- ---- adding
 

@@ -15,7 +15,7 @@ use Rattle.must_call.specs.declared.class.Class.{Class}
 use Rattle.must_call.specs.declared.class.Class.TheVariants.{Comm, Group, Datatype, Operation, Request}
 use Rattle.must_call.specs.declared.call.Call.{Call}
 use Rattle.must_find.specs.declared.rule.Rule.{Rule}
-use Rattle.must_find.specs.declared.rule.Rule.TheVariants.{I1, I2, I3, A1, A2, A3, A4, A5, A6, A7, H1, H2, H3, H4, H5, C6, L1, L2, L3, L4, L5}
+use Rattle.must_find.specs.declared.rule.Rule.TheVariants.{I1, I2, I3, A1, A2, A3, A4, A5, A6, A7, H1, H2, H3, H4, H5, T1, T2, T3, C6, L1, L2, L3, L4, L5}
 use Rattle.must_find.specs.declared.finding.Finding.{Finding}
 use Rattle.must_base.specs.Listing.{Has, Rises}
 use Rattle.must_find.specs.Order.{by_all}
@@ -37,8 +37,18 @@ use Rattle.must_rules.specs.Starts.{Clearness}
 use Rattle.must_rules.specs.Breaches.{Breach, IsBreach, AddsBreaches}
 use Rattle.must_rules.specs.Clear.{argument_breaches}
 use Rattle.must_rules.specs.Known.{clear_behind}
-use Rattle.must_rules.specs.Limits.{limit_at, IsWithin}
+use Rattle.must_format.specs.declared.cause.Limit.{Limit}
+use Rattle.must_rules.specs.Limits.{or_limit, handle_limit_at, limit_at, IsWithin}
+use Rattle.must_rules.specs.Overlaps.{overlap_within, overlap_between}
+use Rattle.must_rules.specs.PendingOperations.{parts_behind, pending_clash, pending_limit_at}
+use Rattle.must_parts.specs.Rows.{BufferRows}
+use Rattle.must_parts.specs.Rows as buffer_rows
+use Rattle.must_parts.specs.Standing as parts
+use Rattle.must_local.specs.declared.fault.WalkFault.TheVariants as walk_fault
 use Rattle.must_rules.specs.LimitLaws.{within_none, within_more}
+use Rattle.must_rules.specs.Numbered.{AreNumbered}
+use Rattle.must_rules.specs.Communicators.{derived_of}
+use Rattle.must_local.specs.Objects.{HasMembers}
 use Rattle.must_rules.specs.WrongLaws.{place_behind, breach_found, found_breach}
 use Rattle.must_handle.specs.Slots.{Stands, start_in}
 use Rattle.must_local.specs.HandlesKnown.{facts_in, IsLimitAt, HandlesStand}
@@ -50,8 +60,8 @@ use Rattle.must_entry.specs.Entries as entries
 use Rattle.must_coll.specs.declared.item.WaveItem.{WaveItem}
 use Rattle.must_items.specs.CollectiveLists.{IsGivenBy, AreItemsOf}
 use Rattle.must_items.specs.ListLaws.{items_more}
-use Rattle.must_local.specs.Adding.{IsOfRule, FrameRows, ArgumentRows, OperationRows, ClassRows, LeakRows, LeakRowsAt, RowsAt, RowsAtEnd}
-use Rattle.must_local.specs.Walks.{WalkState, rank_by, Knows, Walks, GivesAll, IsMiddle, all_rows, collectives, RankTold}
+use Rattle.must_local.specs.Adding.{IsOfRule, FrameRows, ArgumentRows, OperationRows, ClassRows, LeakRows, LeakRowsAt, RowsBeside, HasRowsBeside, RowsAt, RowsAtEnd}
+use Rattle.must_local.specs.Walks.{WalkState, rank_by, Knows, Walks, GivesAll, IsMiddle, IsSilent, all_rows, collectives, RankTold}
 
 -- ---- the tables
 
@@ -64,21 +74,23 @@ first_next : (test : Call → Bool) (calls : List Call) (call : Call) (o : Optio
 first_next test calls call o k e n = ap (λ (x : Option ℕ). or_then x (only_if (test call) k)) e ∙ ap (λ m. or_then (first_where test calls) (only_if (test call) m)) n ∙ sym (first_more test calls call)
 
 pub knows_next : (version : ℕ) (w v : WalkState) (calls : List Call) (call : Call) → Knows version w calls → v.number ≡ w.number + 1 → v.init ≡ or_then w.init (only_if (is_init call) w.number) → v.finalize ≡ or_then w.finalize (only_if (is_finalize call) w.number)
-    → v.returned ≡ call.returned → HandlesStand (rank_by version v.rank) v.handles (calls ++ call ∷ []) → Knows version v (calls ++ call ∷ [])
-knows_next version w v calls call knows n i f r stands = record {
+    → v.returned ≡ call.returned → HandlesStand (rank_by version v.rank) v.handles (calls ++ call ∷ []) → parts.Stands (rank_by version v.rank) (calls ++ call ∷ []) v.buffers → Knows version v (calls ++ call ∷ [])
+knows_next version w v calls call knows n i f r stands buffers = record {
   number = omega (arith, n, knows.number, length-append calls (call ∷ []));
   init = i ∙ first_next is_init calls call w.init w.number knows.init knows.number;
   finalize = f ∙ first_next is_finalize calls call w.finalize w.number knows.finalize knows.number;
   returned = r ∙ sym (returned_more true calls call);
   handles = stands;
+  buffers = buffers;
 }
 
 -- ---- the rows of a call
 
 abbrev AllRows : Rank → List Call → Call → Finding → Type 0
-AllRows r calls call f =
-    FrameRows r.rank (length calls) (first_init calls) (first_finalize calls) call f
-    ⊎ (ArgumentRows r calls call f ⊎ (OperationRows r calls call f ⊎ LeakRowsAt r.rank (length calls) (ends_rank calls call) calls f))
+AllRows r calls call f = RowsBeside r calls call f ⊎ BufferRows (place_behind r calls) r calls call f
+
+of_buffer : (r : Rank) (calls : List Call) (rule : Rule) (answers : ℕ → Option Answer) (f : Finding) → f.rank ≡ r.rank → f.call ≡ length calls → f.rule ≡ rule → answers f.part ≡ Some (f.see, f.value) → buffer_rows.IsOfRule (place_behind r calls) rule answers f
+of_buffer r calls rule answers f a b c d = record { rank_is = a; call_is = b; rule_is = c; gives = d }
 
 no_answer : (a : Answer) {P : Type 0} → None ≡ Some a → P
 no_answer a e = absurd cc
@@ -93,26 +105,29 @@ leaks_from r calls class rule f false a n c d to = no_answer (f.see, f.value) d
 
 cases_by : (r : Rank) (calls : List Call) (call : Call) (f : Finding) (rule : Rule) → f.rule ≡ rule → f.rank ≡ r.rank → f.call ≡ length calls → finding_behind r calls call rule f.part ≡ Some (f.see, f.value) → AllRows r calls call f
 unfolding outside_init after_finalize not_freed
-cases_by r calls call f I1 e a n d = inl (inl (of_rule r calls I1 (at_part 0 (init_answer r.rank (is_init call) (first_init calls))) f a n e d))
-cases_by r calls call f I2 e a n d = inl (inr (of_rule r calls I2 (at_part 0 (seeing r.rank (first_finalize calls))) f a n e d))
-cases_by r calls call f A1 e a n d = inr (inl (found_breach r calls call f A1 e refl a n d))
-cases_by r calls call f A2 e a n d = inr (inl (found_breach r calls call f A2 e refl a n d))
-cases_by r calls call f A3 e a n d = inr (inl (found_breach r calls call f A3 e refl a n d))
-cases_by r calls call f A4 e a n d = inr (inl (found_breach r calls call f A4 e refl a n d))
-cases_by r calls call f A5 e a n d = inr (inl (found_breach r calls call f A5 e refl a n d))
-cases_by r calls call f A6 e a n d = inr (inl (found_breach r calls call f A6 e refl a n d))
-cases_by r calls call f A7 e a n d = inr (inl (found_breach r calls call f A7 e refl a n d))
-cases_by r calls call f H1 e a n d = inr (inl (found_breach r calls call f H1 e refl a n d))
-cases_by r calls call f H2 e a n d = inr (inl (found_breach r calls call f H2 e refl a n d))
-cases_by r calls call f H3 e a n d = inr (inl (found_breach r calls call f H3 e refl a n d))
-cases_by r calls call f H4 e a n d = inr (inl (found_breach r calls call f H4 e refl a n d))
-cases_by r calls call f H5 e a n d = inr (inl (found_breach r calls call f H5 e refl a n d))
-cases_by r calls call f C6 e a n d = inr (inr (inl (of_rule r calls C6 (at_part 0 (operation_untaken r calls call)) f a n e d)))
-cases_by r calls call f L1 e a n d = inr (inr (inr (leaks_from r calls Datatype L1 f (ends_rank calls call) a n e d (λ x. inl x))))
-cases_by r calls call f L2 e a n d = inr (inr (inr (leaks_from r calls Comm L2 f (ends_rank calls call) a n e d (λ x. inr (inl x)))))
-cases_by r calls call f L3 e a n d = inr (inr (inr (leaks_from r calls Group L3 f (ends_rank calls call) a n e d (λ x. inr (inr (inl x))))))
-cases_by r calls call f L4 e a n d = inr (inr (inr (leaks_from r calls Operation L4 f (ends_rank calls call) a n e d (λ x. inr (inr (inr (inl x)))))))
-cases_by r calls call f L5 e a n d = inr (inr (inr (leaks_from r calls Request L5 f (ends_rank calls call) a n e d (λ x. inr (inr (inr (inr x)))))))
+cases_by r calls call f I1 e a n d = inl (inl (inl (of_rule r calls I1 (at_part 0 (init_answer r.rank (is_init call) (first_init calls))) f a n e d)))
+cases_by r calls call f I2 e a n d = inl (inl (inr (of_rule r calls I2 (at_part 0 (seeing r.rank (first_finalize calls))) f a n e d)))
+cases_by r calls call f A1 e a n d = inl (inr (inl (found_breach r calls call f A1 e refl a n d)))
+cases_by r calls call f A2 e a n d = inl (inr (inl (found_breach r calls call f A2 e refl a n d)))
+cases_by r calls call f A3 e a n d = inl (inr (inl (found_breach r calls call f A3 e refl a n d)))
+cases_by r calls call f A4 e a n d = inl (inr (inl (found_breach r calls call f A4 e refl a n d)))
+cases_by r calls call f A5 e a n d = inl (inr (inl (found_breach r calls call f A5 e refl a n d)))
+cases_by r calls call f A6 e a n d = inl (inr (inl (found_breach r calls call f A6 e refl a n d)))
+cases_by r calls call f A7 e a n d = inl (inr (inl (found_breach r calls call f A7 e refl a n d)))
+cases_by r calls call f H1 e a n d = inl (inr (inl (found_breach r calls call f H1 e refl a n d)))
+cases_by r calls call f H2 e a n d = inl (inr (inl (found_breach r calls call f H2 e refl a n d)))
+cases_by r calls call f H3 e a n d = inl (inr (inl (found_breach r calls call f H3 e refl a n d)))
+cases_by r calls call f H4 e a n d = inl (inr (inl (found_breach r calls call f H4 e refl a n d)))
+cases_by r calls call f H5 e a n d = inl (inr (inl (found_breach r calls call f H5 e refl a n d)))
+cases_by r calls call f T1 e a n d = inr (inl (inl (of_buffer r calls T1 (overlap_within (parts_behind r calls call)) f a n e d)))
+cases_by r calls call f T2 e a n d = inr (inl (inr (of_buffer r calls T2 (overlap_between (parts_behind r calls call)) f a n e d)))
+cases_by r calls call f T3 e a n d = inr (inr (of_buffer r calls T3 (pending_clash r calls call) f a n e d))
+cases_by r calls call f C6 e a n d = inl (inr (inr (inl (of_rule r calls C6 (at_part 0 (operation_untaken r calls call)) f a n e d))))
+cases_by r calls call f L1 e a n d = inl (inr (inr (inr (leaks_from r calls Datatype L1 f (ends_rank calls call) a n e d (λ x. inl x)))))
+cases_by r calls call f L2 e a n d = inl (inr (inr (inr (leaks_from r calls Comm L2 f (ends_rank calls call) a n e d (λ x. inr (inl x))))))
+cases_by r calls call f L3 e a n d = inl (inr (inr (inr (leaks_from r calls Group L3 f (ends_rank calls call) a n e d (λ x. inr (inr (inl x)))))))
+cases_by r calls call f L4 e a n d = inl (inr (inr (inr (leaks_from r calls Operation L4 f (ends_rank calls call) a n e d (λ x. inr (inr (inr (inl x))))))))
+cases_by r calls call f L5 e a n d = inl (inr (inr (inr (leaks_from r calls Request L5 f (ends_rank calls call) a n e d (λ x. inr (inr (inr (inr x))))))))
 cases_by r calls call f _ e a n d = no_answer (f.see, f.value) d
 
 -- a finding of a rule is one of the call
@@ -136,24 +151,34 @@ leaks_to r calls call f true e (inr (inr (inl is))) = by_rule r calls call L3 (�
 leaks_to r calls call f true e (inr (inr (inr (inl is)))) = by_rule r calls call L4 (λ p. leak r.rank (slice_get (open_handles calls Operation) p)) f is (ap (λ b. leak_in r.rank b (open_handles calls Operation) f.part) e)
 leaks_to r calls call f true e (inr (inr (inr (inr is)))) = by_rule r calls call L5 (λ p. leak r.rank (slice_get (open_handles calls Request) p)) f is (ap (λ b. leak_in r.rank b (open_handles calls Request) f.part) e)
 
--- what the families add is what stands at the call
-pub rows_behind : (r : Rank) (calls : List Call) (call : Call) (a b o d : List Finding)
+buffers_to : (r : Rank) (calls : List Call) (call : Call) (f : Finding) → BufferRows (place_behind r calls) r calls call f → IsBehind r calls call f
+buffers_to r calls call f (inl (inl is)) = record { rank_is = is.rank_is; call_is = is.call_is; gives = ap (λ (x : Rule). finding_behind r calls call x f.part) is.rule_is ∙ is.gives }
+buffers_to r calls call f (inl (inr is)) = record { rank_is = is.rank_is; call_is = is.call_is; gives = ap (λ (x : Rule). finding_behind r calls call x f.part) is.rule_is ∙ is.gives }
+buffers_to r calls call f (inr is) = record { rank_is = is.rank_is; call_is = is.call_is; gives = ap (λ (x : Rule). finding_behind r calls call x f.part) is.rule_is ∙ is.gives }
+
+beside_to : (r : Rank) (calls : List Call) (call : Call) (f : Finding) → RowsBeside r calls call f → IsBehind r calls call f
+beside_to r calls call f (inl is) = frames_to r calls call f is
+beside_to r calls call f (inr (inl is)) = arguments_to r calls call f is
+beside_to r calls call f (inr (inr (inl is))) = by_rule r calls call C6 (at_part 0 (operation_untaken r calls call)) f is refl
+beside_to r calls call f (inr (inr (inr is))) = leaks_to r calls call f (ends_rank calls call) refl is
+
+-- what the families add but that of buffers
+pub rows_beside : (r : Rank) (calls : List Call) (call : Call) (a b o d : List Finding)
     → Adds [] a (FrameRows r.rank (length calls) (first_init calls) (first_finalize calls) call) → Adds a b (ArgumentRows r calls call) → Adds b o (OperationRows r calls call)
-    → Adds o d (LeakRowsAt r.rank (length calls) (ends_rank calls call) calls) → Rises by_all d → RowsAt r calls call d
-rows_behind r calls call a b o d frames arguments operations leaks rises = record {
-  rises = rises;
+    → Adds o d (LeakRowsAt r.rank (length calls) (ends_rank calls call) calls) → HasRowsBeside r calls call d
+rows_beside r calls call a b o d frames arguments operations leaks = record {
   exact = λ f. (
     λ h. elim ((leaks f).0 h) [
       | inl in_o ↦ elim ((operations f).0 in_o) [
         | inl in_b ↦ elim ((arguments f).0 in_b) [
-          | inl in_a ↦ elim ((frames f).0 in_a) [ inl none ↦ absurd none | inr is ↦ frames_to r calls call f is ]
-          | inr is ↦ arguments_to r calls call f is
+          | inl in_a ↦ elim ((frames f).0 in_a) [ inl none ↦ absurd none | inr is ↦ inl is ]
+          | inr is ↦ inr (inl is)
         ]
-        | inr is ↦ by_rule r calls call C6 (at_part 0 (operation_untaken r calls call)) f is refl
+        | inr is ↦ inr (inr (inl is))
       ]
-      | inr is ↦ leaks_to r calls call f (ends_rank calls call) refl is
+      | inr is ↦ inr (inr (inr is))
     ],
-    λ is. elim (cases_by r calls call f f.rule refl is.rank_is is.call_is is.gives) [
+    λ is. elim is [
       | inl x ↦ (leaks f).1 (inl ((operations f).1 (inl ((arguments f).1 (inl ((frames f).1 (inr x)))))))
       | inr (inl x) ↦ (leaks f).1 (inl ((operations f).1 (inl ((arguments f).1 (inr x)))))
       | inr (inr (inl x)) ↦ (leaks f).1 (inl ((operations f).1 (inr x)))
@@ -162,32 +187,44 @@ rows_behind r calls call a b o d frames arguments operations leaks rises = recor
   );
 }
 
+-- what all families add is what stands at the call
+pub rows_behind : (r : Rank) (calls : List Call) (call : Call) (d e : List Finding) → HasRowsBeside r calls call d → Adds d e (BufferRows (place_behind r calls) r calls call) → Rises by_all e → RowsAt r calls call e
+rows_behind r calls call d e has adds rises = record {
+  rises = rises;
+  exact = λ f. (
+    λ h. elim ((adds f).0 h) [ inl there ↦ beside_to r calls call f ((has.exact f).0 there) | inr is ↦ buffers_to r calls call f is ],
+    λ is. elim (cases_by r calls call f f.rule refl is.rank_is is.call_is is.gives) [ inl x ↦ (adds f).1 (inl ((has.exact f).1 x)) | inr x ↦ (adds f).1 (inr x) ],
+  );
+}
+
 -- the same, by what the tables tell
 pub rows_known : (version : ℕ) (w : WalkState) (calls : List Call) (call : Call) (ends : Bool) (a b o d : List Finding) → Knows version w calls → ends ≡ is_finalize call && is_none w.finalize
     → Adds [] a (FrameRows (rank_by version w.rank).rank w.number w.init w.finalize call) → Adds a b (ArgumentRows (rank_by version w.rank) calls call) → Adds b o (OperationRows (rank_by version w.rank) calls call)
-    → Adds o d (LeakRowsAt (rank_by version w.rank).rank w.number ends calls) → Rises by_all d → RowsAt (rank_by version w.rank) calls call d
-rows_known version w calls call ends a b o d knows e frames arguments operations leaks rises =
+    → Adds o d (LeakRowsAt (rank_by version w.rank).rank w.number ends calls) → HasRowsBeside (rank_by version w.rank) calls call d
+rows_known version w calls call ends a b o d knows e frames arguments operations leaks =
     let r = rank_by version w.rank in
     let n = knows.number in
-    rows_behind r calls call a b o d
+    rows_beside r calls call a b o d
     (subst (λ (o : Option ℕ). Adds [] a (FrameRows r.rank (length calls) (first_init calls) o call)) knows.finalize
     (subst (λ (o : Option ℕ). Adds [] a (FrameRows r.rank (length calls) o w.finalize call)) knows.init
     (subst (λ (m : ℕ). Adds [] a (FrameRows r.rank m w.init w.finalize call)) n frames)))
     arguments operations
     (subst (λ (x : Bool). Adds o d (LeakRowsAt r.rank (length calls) x calls)) (e ∙ ap (λ (o : Option ℕ). is_finalize call && is_none o) knows.finalize)
     (subst (λ (m : ℕ). Adds o d (LeakRowsAt r.rank m ends calls)) n leaks))
-    rises
 
 -- ---- the batches
 
 -- before the first call
-pub walks_first : (version : ℕ) (w : WalkState) → w.number ≡ 0 → w.init ≡ None → w.finalize ≡ None → w.returned ≡ true → HandlesStand (rank_by version w.rank) w.handles [] → Walks version w [] []
-walks_first version w n i f r stands = record {
-  knows = record { number = n; init = i; finalize = f; returned = r; handles = stands };
+pub walks_first : (version : ℕ) (w : WalkState) → w.number ≡ 0 → w.init ≡ None → w.finalize ≡ None → w.returned ≡ true → HandlesStand (rank_by version w.rank) w.handles [] → parts.Stands (rank_by version w.rank) [] w.buffers → Walks version w [] []
+walks_first version w n i f r stands buffers = record {
+  knows = record { number = n; init = i; finalize = f; returned = r; handles = stands; buffers = buffers };
   once = tt;
   rows = λ g. (λ h. absurd h, λ is. absurd (here_none (rank_by version w.rank) g is));
   waves = refl;
   middle = tt;
+  silent = tt;
+  numbered = tt;
+  members = tt;
   within = within_none (rank_by version w.rank);
 }
 
@@ -219,8 +256,8 @@ joined P Q R fs gs old new apart p q r = record {
 }
 
 pub walks_more : (version : ℕ) (w v : WalkState) (calls : List Call) (call : Call) (given : List Batch) (batch : Batch) (rows : List Finding) → Knows version v (calls ++ call ∷ []) → limit_at (rank_by version w.rank) calls call ≡ None → v.rank ≡ w.rank → RowsAt (rank_by version w.rank) calls call rows
-    → rows_of batch.entries ≡ rows → IsGivenBy (rank_by version w.rank) calls call (entries.calls batch.entries) → batch.rank ≡ (rank_by version w.rank).rank → batch.last ≡ false → Walks version w calls given → Walks version v (calls ++ call ∷ []) (given ++ batch ∷ [])
-walks_more version w v calls call given batch rows knows none same at are wave rank_is goes_on walks =
+    → rows_of batch.entries ≡ rows → IsGivenBy (rank_by version w.rank) calls call (entries.calls batch.entries) → batch.rank ≡ (rank_by version w.rank).rank → batch.last ≡ false → IsSilent batch → AreNumbered 64 (calls ++ call ∷ []) → HasMembers (derived_of call.body) → Walks version w calls given → Walks version v (calls ++ call ∷ []) (given ++ batch ∷ [])
+walks_more version w v calls call given batch rows knows none same at are wave rank_is goes_on silent numbered members walks =
     let r = rank_by version w.rank in
     let r_is : rank_by version v.rank ≡ r = ap (rank_by version) same in
     let new : Joins (IsBehind r calls call) (rows_of batch.entries) = subst (Joins (IsBehind r calls call)) (sym are) (record { once = rises_distinct by_all by_all_total rows at.rises; rows = at.exact }) in
@@ -235,6 +272,9 @@ walks_more version w v calls call given batch rows knows none same at are wave r
       waves = subst (λ (s : Rank). AreItemsOf s (calls ++ call ∷ []) (collectives (given ++ batch ∷ []))) (sym r_is)
           (subst (AreItemsOf r (calls ++ call ∷ [])) (sym (collectives_more given batch)) (items_more r calls call (collectives given) (entries.calls batch.entries) walks.waves wave));
       middle = subst (λ (s : Rank). AllByRecursion (IsMiddle s.rank) (given ++ batch ∷ [])) (sym r_is) (all_push (IsMiddle r.rank) given batch walks.middle (record { rank_is = rank_is; goes_on = goes_on }));
+      silent = all_push IsSilent given batch walks.silent silent;
+      numbered = numbered;
+      members = all_push (λ (c : Call). HasMembers (derived_of c.body)) calls call walks.members members;
       within = subst (λ (s : Rank). IsWithin s (calls ++ call ∷ [])) (sym r_is) (within_more r calls call walks.within none);
     }
 
@@ -265,12 +305,12 @@ pub rows_seen : (version : ℕ) (w x : WalkState) → w ≡ x → (calls : List 
     → at.rank ≡ w.handles.rank → at.call ≡ w.number → w.rank.rank ≡ w.handles.rank
     → Adds z a (FrameRows at.rank at.call w.init w.finalize call) → AddsBreaches at a b (argument_breaches (facts_in w.handles) (λ n. start_in w.handles.lives n) at.call call.body)
     → Adds b o (IsOfRule at.rank at.call C6 (at_part 0 (wrong_operation (facts_in w.handles) (λ h. is_some (number_of w.handles.types.numbers h)) call.body)))
-    → ((is_clear : Clearness) → Stands is_clear w.handles.lives calls → Adds o d (LeakRowsAt at.rank at.call ends calls)) → Rises by_all d → RowsAt (rank_by version x.rank) calls call d
-rows_seen version w x e calls call at is ends z a b o d none knows f g rank number own frames arguments operations leaks rises =
+    → ((is_clear : Clearness) → Stands is_clear w.handles.lives calls → Adds o d (LeakRowsAt at.rank at.call ends calls)) → HasRowsBeside (rank_by version x.rank) calls call d
+rows_seen version w x e calls call at is ends z a b o d none knows f g rank number own frames arguments operations leaks =
     let k : Knows version w calls = subst (λ (v : WalkState). Knows version v calls) (sym e) knows in
     let r = rank_by version w.rank in
     let here : at.rank ≡ r.rank = rank ∙ sym own in
-    subst (λ (v : WalkState). RowsAt (rank_by version v.rank) calls call d) e
+    subst (λ (v : WalkState). HasRowsBeside (rank_by version v.rank) calls call d) e
     (rows_known version w calls call ends a b o d k (g ∙ ap (λ (b : Bool). b && is_none w.finalize) f)
     (subst (λ (n : ℕ). Adds [] a (FrameRows r.rank n w.init w.finalize call)) number
     (subst (λ (n : ℕ). Adds [] a (FrameRows n at.call w.init w.finalize call)) here
@@ -278,23 +318,52 @@ rows_seen version w x e calls call at is ends z a b o d none knows f g rank numb
     (arguments_told version w calls call at a b k rank number arguments)
     (operation_told version w calls call at b o k rank number operations)
     (subst (λ (n : ℕ). Adds o d (LeakRowsAt r.rank n ends calls)) number
-    (subst (λ (n : ℕ). Adds o d (LeakRowsAt n at.call ends calls)) here (leaks (clear_behind r) k.handles.lives))) rises)
+    (subst (λ (n : ℕ). Adds o d (LeakRowsAt n at.call ends calls)) here (leaks (clear_behind r) k.handles.lives))))
 
 pub knows_seen : (version : ℕ) (w x v : WalkState) → w ≡ x → (calls : List Call) (call : Call) (i f : Bool) → Knows version x calls → i ≡ is_init call → f ≡ is_finalize call → v.number ≡ w.number + 1 → v.init ≡ or_then w.init (only_if i w.number)
     → v.finalize ≡ or_then w.finalize (only_if f w.number) → v.returned ≡ call.returned
-    → ((r : Rank) → length calls ≡ w.number → HandlesStand r w.handles calls → HandlesStand r v.handles (calls ++ call ∷ [])) → v.rank ≡ w.rank → Knows version v (calls ++ call ∷ [])
-knows_seen version w x v e calls call i f knows is fs n init finalize returned stands same =
+    → ((r : Rank) → length calls ≡ w.number → HandlesStand r w.handles calls → HandlesStand r v.handles (calls ++ call ∷ []))
+    → ((r : Rank) → length calls ≡ w.number → HandlesStand r w.handles calls → parts.Stands r calls w.buffers → parts.Stands r (calls ++ call ∷ []) v.buffers) → v.rank ≡ w.rank → Knows version v (calls ++ call ∷ [])
+knows_seen version w x v e calls call i f knows is fs n init finalize returned stands begins same =
     let k : Knows version w calls = subst (λ (u : WalkState). Knows version u calls) (sym e) knows in
     let handles = stands (rank_by version w.rank) (sym k.number) k.handles in
+    let buffers = begins (rank_by version w.rank) (sym k.number) k.handles k.buffers in
     knows_next version w v calls call k n (init ∙ ap (λ (b : Bool). or_then w.init (only_if b w.number)) is) (finalize ∙ ap (λ (b : Bool). or_then w.finalize (only_if b w.number)) fs) returned
     (subst (λ (t : RankTold). HandlesStand (rank_by version t) v.handles (calls ++ call ∷ [])) (sym same) handles)
+    (subst (λ (t : RankTold). parts.Stands (rank_by version t) (calls ++ call ∷ []) v.buffers) (sym same) buffers)
 
 pub limit_seen : (version : ℕ) (w x : WalkState) → w ≡ x → (calls : List Call) (call : Call) (f : WalkFault) → Knows version x calls
-    → ((r : Rank) → HandlesStand r w.handles calls → IsLimitAt w.number (limit_at r calls call) f) → IsLimitAt (length calls) (limit_at (rank_by version x.rank) calls call) f
+    → (length calls ≡ w.number → HandlesStand (rank_by version w.rank) w.handles calls → parts.Stands (rank_by version w.rank) calls w.buffers → IsLimitAt w.number (limit_at (rank_by version w.rank) calls call) f) → IsLimitAt (length calls) (limit_at (rank_by version x.rank) calls call) f
 limit_seen version w x e calls call f knows over =
     let k : Knows version w calls = subst (λ (v : WalkState). Knows version v calls) (sym e) knows in
     subst (λ (v : WalkState). IsLimitAt (length calls) (limit_at (rank_by version v.rank) calls call) f) e
-    (subst (λ (n : ℕ). IsLimitAt n (limit_at (rank_by version w.rank) calls call) f) k.number (over (rank_by version w.rank) k.handles))
+    (subst (λ (n : ℕ). IsLimitAt n (limit_at (rank_by version w.rank) calls call) f) k.number (over (sym k.number) k.handles k.buffers))
+
+-- the rows that its buffers give a call
+pub buffers_seen : (version : ℕ) (w x : WalkState) → w ≡ x → (calls : List Call) (call : Call) (at : Place) (d e : List Finding) → Knows version x calls → at.rank ≡ w.rank.rank → at.call ≡ w.number
+    → ((r : Rank) → r.rank ≡ at.rank → length calls ≡ at.call → HandlesStand r w.handles calls → parts.Stands r calls w.buffers → Adds d e (BufferRows at r calls call)) → Adds d e (BufferRows (place_behind (rank_by version x.rank) calls) (rank_by version x.rank) calls call)
+buffers_seen version w x same calls call at d e knows rank number adds =
+    let k : Knows version w calls = subst (λ (v : WalkState). Knows version v calls) (sym same) knows in
+    let r = rank_by version w.rank in
+    let call_is : at.call ≡ length calls = number ∙ k.number in
+    let there : at ≡ place_behind r calls = λ i. record { rank = rank i; call = call_is i } in
+    subst (λ (v : WalkState). Adds d e (BufferRows (place_behind (rank_by version v.rank) calls) (rank_by version v.rank) calls call)) same
+    (subst (λ (p : Place). Adds d e (BufferRows p r calls call)) there (adds r (sym rank) (sym call_is) k.handles k.buffers))
+
+-- a call that reaches neither the limit of its buffers nor one of its handles
+pub within_seen : (version : ℕ) (w x : WalkState) → w ≡ x → (calls : List Call) (call : Call) → Knows version x calls
+    → (length calls ≡ w.number → HandlesStand (rank_by version w.rank) w.handles calls → parts.Stands (rank_by version w.rank) calls w.buffers → pending_limit_at (rank_by version w.rank) calls call ≡ None)
+    → (HandlesStand (rank_by version w.rank) w.handles calls → handle_limit_at (rank_by version w.rank) calls call ≡ None) → limit_at (rank_by version x.rank) calls call ≡ None
+within_seen version w x same calls call knows few light =
+    let k : Knows version w calls = subst (λ (v : WalkState). Knows version v calls) (sym same) knows in
+    let r = rank_by version w.rank in
+    subst (λ (v : WalkState). limit_at (rank_by version v.rank) calls call ≡ None) same
+    (ap (λ (o : Option Limit). or_limit o (handle_limit_at r calls call)) (few (sym k.number) k.handles k.buffers) ∙ light k.handles)
+
+-- the limit of a handle is the call's, where it doesn't reach that of its buffers
+pub handle_over : (r : Rank) (calls : List Call) (call : Call) (k : ℕ) (f : WalkFault) → pending_limit_at r calls call ≡ None → IsLimitAt k (handle_limit_at r calls call) f → IsLimitAt k (limit_at r calls call) f
+handle_over r calls call k (walk_fault.TooWide at l) few h = (h.0, ap (λ (o : Option Limit). or_limit o (handle_limit_at r calls call)) few ∙ h.1)
+handle_over r calls call k walk_fault.NoMemory few h = tt
 
 -- ---- the end
 
@@ -337,15 +406,15 @@ end_seen version w x e calls z a none knows adds rises =
     })
 
 pub walks_end : (version : ℕ) (w : WalkState) (calls : List Call) (given : List Batch) (batch : Batch) (rows : List Finding) → RowsAtEnd (rank_by version w.rank) calls rows → rows_of batch.entries ≡ rows
-    → entries.calls batch.entries ≡ [] → batch.rank ≡ (rank_by version w.rank).rank → batch.last ≡ true → Walks version w calls given → GivesAll (rank_by version w.rank) calls (given ++ batch ∷ [])
-walks_end version w calls given batch rows at are none rank_is ends walks =
+    → entries.calls batch.entries ≡ [] → batch.rank ≡ (rank_by version w.rank).rank → batch.last ≡ true → IsSilent batch → Walks version w calls given → GivesAll (rank_by version w.rank) calls (given ++ batch ∷ [])
+walks_end version w calls given batch rows at are none rank_is ends silent walks =
     let r = rank_by version w.rank in
     let new : Joins (IsWhole r calls) (rows_of batch.entries) = subst (Joins (IsWhole r calls)) (sym are) (record { once = rises_distinct by_all by_all_total rows at.rises; rows = at.exact }) in
     let all = joined (IsHere r calls) (IsWhole r calls) (IsLocal r calls) (all_rows given) (rows_of batch.entries) (record { once = walks.once; rows = walks.rows }) new
     (here_whole r calls) (local_here r calls) (local_whole r calls) (local_cases r calls) in
     let here : Joins (IsLocal r calls) (all_rows (given ++ batch ∷ [])) = subst (Joins (IsLocal r calls)) (sym (all_more given batch)) all in
     let given_are : collectives (given ++ batch ∷ []) ≡ collectives given = collectives_more given batch ∙ ap (λ (l : List WaveItem). collectives given ++ l) none ∙ append-nil (collectives given) in
-    record { once = here.once; rows = here.rows; waves = subst (AreItemsOf r calls) (sym given_are) walks.waves; middle = given; last = batch; batches_are = refl; go_on = walks.middle; rank_is = rank_is; ends = ends }
+    record { once = here.once; rows = here.rows; waves = subst (AreItemsOf r calls) (sym given_are) walks.waves; silent = all_push IsSilent given batch walks.silent silent; middle = given; last = batch; batches_are = refl; go_on = walks.middle; rank_is = rank_is; ends = ends }
 
 -- what a call gives to its wave, by the tables of a walk whose fields tell its state
 pub wave_seen : (version : ℕ) (w x : WalkState) → w ≡ x → (calls : List Call) (call : Call) (items : List WaveItem) → Knows version x calls

@@ -15,9 +15,9 @@ use Rattle.must_rules.specs.Local.{IsBehind, IsWhole, breaches_at, operation_unt
 use Rattle.must_rules.specs.Answer.{Answer, at_part}
 use Rattle.must_rules.specs.Breaches.{IsBreach}
 use Rattle.must_rules.specs.WrongLaws.{place_behind}
-use Rattle.must_rules.specs.Frames.{is_init, init_answer, seeing}
+use Rattle.must_rules.specs.Frames.{is_init, first_init, first_finalize, init_answer, seeing}
 use Rattle.must_rules.specs.Lives.{open_handles}
-use Rattle.must_rules.specs.Leaks.{leak}
+use Rattle.must_rules.specs.Leaks.{leak, ends_rank}
 
 -- the finding stands at this call and rule, and its part's answer is this
 pub record IsOfRule (rank call : ℕ) (rule : Rule) (answers : ℕ → Option Answer) (f : Finding) : Type 0 where
@@ -54,6 +54,16 @@ LeakRows rank k calls f = ClassRows rank k Datatype L1 calls f ⊎ (ClassRows ra
 abbrev pub LeakRowsAt : ℕ → ℕ → Bool → List Call → Finding → Type 0
 LeakRowsAt rank k true calls f = LeakRows rank k calls f
 LeakRowsAt rank k false calls f = ⊥
+
+-- those of all rules but those of buffers
+abbrev pub RowsBeside : Rank → List Call → Call → Finding → Type 0
+RowsBeside r calls call f =
+    FrameRows r.rank (length calls) (first_init calls) (first_finalize calls) call f
+    ⊎ (ArgumentRows r calls call f ⊎ (OperationRows r calls call f ⊎ LeakRowsAt r.rank (length calls) (ends_rank calls call) calls f))
+
+-- exactly these
+pub record HasRowsBeside (r : Rank) (calls : List Call) (call : Call) (rows : List Finding) : Type 0 where
+  pub exact : (f : Finding) → Has rows f ↔ RowsBeside r calls call f
 
 -- the rows of a call, in order
 pub record RowsAt (r : Rank) (calls : List Call) (call : Call) (rows : List Finding) : Type 0 where

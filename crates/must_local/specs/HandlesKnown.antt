@@ -1,5 +1,6 @@
 -- What a rank knows of its handles by its tables, and the calls that these stand for.
-use Rattle.std.specs.Prelude.{◌≡◌, ◌⊎◌, ◌++◌, ◌∷◌, [], ℕ, Bool, false, nat_eq, ◌&&◌, if◌then◌else◌, List, length, Option, Some, None, option_map}
+use Rattle.must_derived.specs.Numbers.{number_of}
+use Rattle.std.specs.Prelude.{is_some, ◌≡◌, ◌⊎◌, ◌++◌, ◌∷◌, [], ℕ, Bool, false, nat_eq, ◌&&◌, if◌then◌else◌, List, length, Option, Some, None, option_map}
 use Rattle.must_call.specs.declared.class.Class.{Class}
 use Rattle.must_call.specs.declared.class.Class.TheVariants as class
 use Rattle.must_call.specs.declared.body.Body.{Body}
@@ -38,6 +39,10 @@ facts_in h = record {
   comm = λ comm. members_named h.rank (option_map name_counted (usable_comm h comm));
   group = λ group. there (state_in h.lives class.Group group) (group_in h.objects group);
 }
+
+-- the datatypes that are sound by its tables
+abbrev pub sound_in : Handles → ℕ → Bool
+sound_in h number = is_some (number_of h.types.numbers number)
 
 pub record HandlesStand (r : Rank) (h : Handles) (calls : List Call) : Type 0 where
   pub rank_is : h.rank ≡ r.rank

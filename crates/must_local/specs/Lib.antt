@@ -6,4 +6,5 @@ pub mod Objects
 pub mod Bumps
 pub mod HandlesKnown
 pub mod Seen
+pub mod Codes
 pub mod Walks

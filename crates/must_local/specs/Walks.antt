@@ -11,8 +11,11 @@ use Rattle.must_rules.specs.Local.{IsHere, IsLocal}
 use Rattle.must_local.specs.declared.handles.Handles.{Handles}
 use Rattle.must_call.specs.Handles.{handles_of}
 use Rattle.must_rules.specs.Limits.{IsWithin}
+use Rattle.must_rules.specs.Numbered.{AreNumbered}
 use Rattle.must_rules.specs.Communicators.{derived_of}
 use Rattle.must_handle.specs.Changes.{IsNext}
+use Rattle.must_parts.specs.declared.buffers.Buffers.{Buffers}
+use Rattle.must_parts.specs.Standing as parts
 use Rattle.must_local.specs.Objects.{HasMembers}
 use Rattle.must_local.specs.HandlesKnown.{HandlesStand}
 use Rattle.must_entry.specs.declared.batch.Batch.{Batch}
@@ -31,7 +34,8 @@ pub record RankTold : Type 0 where
 abbrev pub rank_by : ℕ → RankTold → Rank
 rank_by version told = record { rank = told.rank; size = told.size; version = version; tag_ub = told.tag_ub }
 
--- the rank, how many calls were stepped, the first Init and Finalize, whether the last call returned, and what is known of handles
+-- the rank, how many calls were stepped, the first Init and Finalize, whether the last call returned, what is known of handles, and
+-- the buffers of operations that are pending
 pub record WalkState : Type 0 where
   pub rank : RankTold
   pub number : ℕ
@@ -39,6 +43,7 @@ pub record WalkState : Type 0 where
   pub finalize : Option ℕ
   pub returned : Bool
   pub handles : Handles
+  pub buffers : Buffers
 
 -- a walk may take this call next: the handle that it makes, if any, has the next number, and the communicator members that it may
 -- have; it names few handles, and few calls were taken
@@ -55,6 +60,7 @@ pub record Knows (version : ℕ) (w : WalkState) (calls : List Call) : Type 0 wh
   pub finalize : w.finalize ≡ first_finalize calls
   pub returned : w.returned ≡ ends_returned calls
   pub handles : HandlesStand (rank_by version w.rank) w.handles calls
+  pub buffers : parts.Stands (rank_by version w.rank) calls w.buffers
 
 -- the local rows of some batches
 abbrev pub all_rows : List Batch → List Finding
@@ -69,6 +75,11 @@ pub record IsMiddle (rank : ℕ) (b : Batch) : Type 0 where
   pub rank_is : b.rank ≡ rank
   pub goes_on : b.last ≡ false
 
+-- a batch without messages and needs: so far a walk gives none
+pub record IsSilent (b : Batch) : Type 0 where
+  pub messages : entries.messages b.entries ≡ []
+  pub needs : entries.needs b.entries ≡ []
+
 -- the walk has taken these calls, which reach no limit, and given these batches
 pub record Walks (version : ℕ) (w : WalkState) (calls : List Call) (given : List Batch) : Type 0 where
   pub knows : Knows version w calls
@@ -76,6 +87,9 @@ pub record Walks (version : ℕ) (w : WalkState) (calls : List Call) (given : Li
   pub rows : (f : Finding) → Has (all_rows given) f ↔ IsHere (rank_by version w.rank) calls f
   pub waves : AreItemsOf (rank_by version w.rank) calls (collectives given)
   pub middle : AllByRecursion (IsMiddle (rank_by version w.rank).rank) given
+  pub silent : AllByRecursion IsSilent given
+  pub numbered : AreNumbered 64 calls
+  pub members : AllByRecursion (λ (call : Call). HasMembers (derived_of call.body)) calls
   pub within : IsWithin (rank_by version w.rank) calls
 
 -- these batches are all that the calls of a rank give: each local row once, what each collective call gives to its wave, and the
@@ -84,6 +98,7 @@ pub record GivesAll (r : Rank) (calls : List Call) (batches : List Batch) : Type
   pub once : AreDistinct (all_rows batches)
   pub rows : (f : Finding) → Has (all_rows batches) f ↔ IsLocal r calls f
   pub waves : AreItemsOf r calls (collectives batches)
+  pub silent : AllByRecursion IsSilent batches
   pub middle : List Batch
   pub last : Batch
   pub batches_are : batches ≡ middle ++ last ∷ []

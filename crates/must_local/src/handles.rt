@@ -4,7 +4,7 @@ ghost use Rattle.std.specs.Prelude.{◌≡◌, ◌+◌, ◌++◌, ◌∷◌, [],
 ghost use Rattle.must_call.specs.declared.call.Call.{Call};
 ghost use Rattle.must_rules.specs.Rank.{Rank};
 ghost use Rattle.must_rules.specs.Making.{made_by};
-ghost use Rattle.must_rules.specs.Limits.{path_limit, most_weight, limit_at};
+ghost use Rattle.must_rules.specs.Limits.{path_limit, most_weight, handle_limit_at};
 ghost use Rattle.must_rules.specs.Clear.{is_clear};
 ghost use Rattle.must_rules.specs.Communicators.{derived_of};
 ghost use Rattle.must_rules.specs.Known.{group_made};
@@ -372,8 +372,8 @@ impl Handles {
         requires clear { clear ≡ is_clear (facts_in self.old) call.now.body }
         ensures stands { OnOk result ((r : Rank) (calls : List Call) → length calls ≡ k → HandlesStand r self.old calls → HandlesStand r self.new (calls ++ call.now ∷ [])) }
         ensures told { OnOk result ((self.new.rank ≡ self.old.rank) × (self.new.tag_ub ≡ self.old.tag_ub)) }
-        ensures within { OnOk result ((r : Rank) (calls : List Call) → HandlesStand r self.old calls → limit_at r calls call.now ≡ None) }
-        ensures over { IfErr result (λ fault. (r : Rank) (calls : List Call) → HandlesStand r self.old calls → IsLimitAt k (limit_at r calls call.now) fault) }
+        ensures within { OnOk result ((r : Rank) (calls : List Call) → HandlesStand r self.old calls → handle_limit_at r calls call.now ≡ None) }
+        ensures over { IfErr result (λ fault. (r : Rank) (calls : List Call) → HandlesStand r self.old calls → IsLimitAt k (handle_limit_at r calls call.now) fault) }
     {
         self.take_in(alloc, k, call, clear)?;
         self.take_type(alloc, k, call, clear)?;

@@ -7,6 +7,7 @@
 #![tactic(auto)]
 
 mod batch;
+mod buffers;
 mod comm;
 mod derived;
 mod fault;

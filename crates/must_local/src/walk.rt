@@ -12,13 +12,18 @@ ghost use Rattle.must_rules.specs.Limits.{limit_at};
 ghost use Rattle.must_rules.specs.Communicators.{derived_of};
 ghost use Rattle.must_handle.specs.Changes.{IsNext};
 ghost use Rattle.must_local.specs.Objects.{HasMembers};
-ghost use Rattle.must_local.specs.HandlesKnown.{IsLimitAt, facts_in};
+ghost use Rattle.must_local.specs.HandlesKnown.{IsLimitAt, facts_in, sound_in};
 ghost use Rattle.must_entry.specs.declared.batch.Batch.{Batch};
 ghost use Rattle.must_rules.specs.Search.{or_then, only_if};
-ghost use Rattle.must_local.specs.Adding.{RowsAt, RowsAtEnd};
+ghost use Rattle.must_local.specs.Adding.{HasRowsBeside, RowsAtEnd};
+ghost use Rattle.must_find.specs.Adds.{Adds};
+ghost use Rattle.must_rules.specs.UsableParts.{usable_parts};
+ghost use Rattle.must_rules.specs.WrongLaws.{place_behind};
+ghost use Rattle.must_parts.specs.Rows.{BufferRows};
 ghost use Rattle.must_local.specs.Walks.{rank_by, MayStep, Knows, Walks, GivesAll};
 
 use crate::batch::{call_entries, row_entries};
+use crate::buffers::take_buffers;
 use crate::fault::WalkFault;
 use crate::handles::Handles;
 use crate::leaks::add_leaks_at;
@@ -26,11 +31,12 @@ use crate::members::are_members;
 use crate::reductions::add_untaken;
 use crate::rows::{add_frames, add_missing, is_finalize_call, is_init_call};
 use crate::waves::wave_item;
-use must_args::check_args;
+use must_args::{Usable, check_args};
 use must_base::NoMemory;
 use must_call::{Body, Call, Place};
 use must_entry::Batch;
 use must_find::Findings;
+use must_parts::Buffers;
 use std::alloc::Global;
 use std::marker::Model;
 
@@ -44,18 +50,20 @@ pub struct RankWalk {
     finalize: Option<u32>,
     returned: bool,
     handles: Handles,
+    buffers: Buffers,
 }
 
 impl Model for RankWalk {
     ghost use Rattle.must_local.specs.Walks.{WalkState};
     ghost use Rattle.std.specs.Coded.{codes};
     ghost use Rattle.must_type.specs.TreeCode.{tree_code};
+    ghost use Rattle.must_local.specs.Codes.{buffers_code};
 
     ghost Value = { WalkState };
 
-    ghost coded = { Prim.hlevel (codes, tree_code) };
+    ghost coded = { Prim.hlevel (codes, tree_code, buffers_code) };
 
-    ghost view = { λ w. record { rank = record { rank = w.handles.rank; size = w.size; tag_ub = w.handles.tag_ub }; number = w.number; init = w.init; finalize = w.finalize; returned = w.returned; handles = w.handles } };
+    ghost view = { λ w. record { rank = record { rank = w.handles.rank; size = w.size; tag_ub = w.handles.tag_ub }; number = w.number; init = w.init; finalize = w.finalize; returned = w.returned; handles = w.handles; buffers = w.buffers } };
 }
 
 /// The first of two calls, where the earlier is there.
@@ -79,7 +87,7 @@ fn ends_here(is_finalize: bool, first: Option<u32>) -> bool
 #[derive(Drop)]
 struct Judged {
     rows: Findings,
-    clear: bool,
+    usable: Usable,
 }
 
 /// Whether the communicator that a call makes, if any, has members that it may have.
@@ -109,6 +117,7 @@ impl RankWalk {
         ensures rank { IfOk result (λ walk. walk.rank ≡ record { rank = rank; size = size; tag_ub = tag_ub }) }
     {
         let handles = Handles::new(alloc, rank, size, tag_ub)?;
+        let buffers = Buffers::new(alloc)?;
         Ok(RankWalk {
             alloc,
             size,
@@ -117,14 +126,16 @@ impl RankWalk {
             finalize: None,
             returned: true,
             handles,
+            buffers,
         })
     }
 
-    /// The local rows of the next call, and whether it is clear.
+    /// The local rows of the next call but those of its buffers, and what its arguments leave for other rules.
     fn judge(&self, call: &Call) -> Result<Judged, NoMemory>
         requires { length (handles_of call.now.body) < 2 ^ 32 }
-        ensures rows { (version : ℕ) (calls : List Call) → Knows version self.now calls → IfOk result (λ judged. RowsAt (rank_by version self.now.rank) calls call.now judged.rows) }
-        ensures clear { IfOk result (λ judged. judged.clear ≡ is_clear (facts_in self.now.handles) call.now.body) }
+        ensures rows { (version : ℕ) (calls : List Call) → Knows version self.now calls → IfOk result (λ judged. HasRowsBeside (rank_by version self.now.rank) calls call.now judged.rows) }
+        ensures clear { IfOk result (λ judged. judged.usable.clear ≡ is_clear (facts_in self.now.handles) call.now.body) }
+        ensures parts { IfOk result (λ judged. judged.usable.parts ≡ usable_parts (facts_in self.now.handles) (sound_in self.now.handles) call.now.body) }
     {
         let mut rows = Findings::new(self.alloc);
         let at = Place {
@@ -136,26 +147,39 @@ impl RankWalk {
         add_untaken(&mut rows, at, &self.handles, call, usable.clear)?;
         let ends = ends_here(is_finalize_call(call), self.finalize);
         add_leaks_at(&mut rows, at, ends, &self.handles.lives)?;
-        let _ = rows.as_slice();
-        Ok(Judged {
-            rows,
-            clear: usable.clear,
-        })
+        Ok(Judged { rows, usable })
     }
 
-    /// Takes the next call into the tables; `clear` says whether it is.
-    fn take(&mut self, call: &Call, clear: bool) -> Result<(), WalkFault>
+    /// Takes the next call into the tables, and adds the rows of its buffers. `usable` is what its arguments leave for other rules.
+    fn take(&mut self, call: &Call, usable: &Usable, rows: &mut Findings) -> Result<(), WalkFault>
         requires next { IsNext self.old.handles.lives call.now }
         requires few { self.old.number + 1 < 2 ^ 32 }
         requires members { HasMembers (derived_of call.now.body) }
-        requires clear { clear ≡ is_clear (facts_in self.old.handles) call.now.body }
+        requires clear { usable.now.clear ≡ is_clear (facts_in self.old.handles) call.now.body }
+        requires parts { usable.now.parts ≡ usable_parts (facts_in self.old.handles) (sound_in self.old.handles) call.now.body }
+        ensures rows { OnOk result ((version : ℕ) (calls : List Call) → Knows version self.old calls → Adds rows.old rows.new (BufferRows (place_behind (rank_by version self.old.rank) calls) (rank_by version self.old.rank) calls call.now)) }
         ensures knows { OnOk result ((version : ℕ) (calls : List Call) → Knows version self.old calls → Knows version self.new (calls ++ call.now ∷ [])) }
         ensures rank { OnOk result (self.new.rank ≡ self.old.rank) }
         ensures within { OnOk result ((version : ℕ) (calls : List Call) → Knows version self.old calls → limit_at (rank_by version self.old.rank) calls call.now ≡ None) }
         ensures over { IfErr result (λ fault. (version : ℕ) (calls : List Call) → Knows version self.old calls → IsLimitAt (length calls) (limit_at (rank_by version self.old.rank) calls call.now) fault) }
     {
         let number = self.number;
-        self.handles.take(self.alloc, number, call, clear)?;
+        let at = Place {
+            rank: self.handles.rank,
+            call: number,
+        };
+        let size = self.size;
+        take_buffers(
+            &mut self.buffers,
+            self.alloc,
+            &self.handles,
+            at,
+            size,
+            call,
+            usable,
+            rows,
+        )?;
+        self.handles.take(self.alloc, number, call, usable.clear)?;
         self.init = first_of(self.init, is_init_call(call), number);
         self.finalize = first_of(self.finalize, is_finalize_call(call), number);
         self.returned = call.returned;
@@ -182,15 +206,16 @@ impl RankWalk {
         ensures rank { OnOk result (self.new.rank ≡ self.old.rank) }
         ensures over { IfErr result (λ fault. (version : ℕ) (calls : List Call) (given : List Batch) → Walks version self.old calls given → IsLimitAt (length calls) (limit_at (rank_by version self.old.rank) calls call.now) fault) }
     {
-        let judged = self.judge(call)?;
+        let Judged { rows, usable } = self.judge(call)?;
+        let mut rows = rows;
         let rank = self.handles.rank;
         let at = Place {
             rank,
             call: self.number,
         };
-        let wave = wave_item(self.alloc, &self.handles, at, call, judged.clear)?;
-        let entries = call_entries(self.alloc, judged.rows.as_slice(), wave)?;
-        self.take(call, judged.clear)?;
+        let wave = wave_item(self.alloc, &self.handles, at, call, usable.clear)?;
+        self.take(call, &usable, &mut rows)?;
+        let entries = call_entries(self.alloc, rows.as_slice(), wave)?;
         Ok(Batch {
             rank,
             entries,

@@ -1,4 +1,4 @@
--- Limits on what is kept of a rank (docs/FORMAT.md, "Limits"), so far three: the first call that reaches one refuses its stream there.
+-- Limits on what is kept of a rank (docs/FORMAT.md, "Limits"), of which four are told here: the first call that reaches one refuses its stream there.
 use Rattle.std.specs.Prelude.{◌≡◌, ℕ, ◌+◌, ◌/◌, ◌^◌, nat_le, nat_lt, ℤ, pos, ◌-ℤ◌, int_le, Bool, false, ◌&&◌, nat_eq, if◌then◌else◌, List, length, take, Option, Some, None, slice_get}
 use Rattle.std.specs.List.{list_all}
 use Rattle.must_call.specs.declared.class.Class.TheVariants.{Comm, Datatype}
@@ -14,6 +14,7 @@ use Rattle.must_type.specs.Tree.{TypeTree, type_map, depth, weight}
 use Rattle.must_rules.specs.Starts.{Clearness}
 use Rattle.must_rules.specs.Communicators.{Derived, derived_of, usable_name}
 use Rattle.must_rules.specs.Known.{clear_behind}
+use Rattle.must_rules.specs.PendingOperations.{pending_limit_at}
 use Rattle.must_rules.specs.Types.{clear_type, type_of, types_weight}
 
 abbrev pub is_comm : Option ClassedHandle → Bool
@@ -81,9 +82,13 @@ abbrev pub or_limit : Option Limit → Option Limit → Option Limit
 or_limit (Some limit) other = Some limit
 or_limit None other = other
 
+-- the limit of what is kept of handles
+abbrev pub handle_limit_at : Rank → List Call → Call → Option Limit
+handle_limit_at r earlier call = or_limit (type_limit_at (most_weight r.size) (clear_behind r) earlier call) (path_limit (is_too_deep r earlier call))
+
 -- the limit that a call reaches behind the earlier ones
 abbrev pub limit_at : Rank → List Call → Call → Option Limit
-limit_at r earlier call = or_limit (type_limit_at (most_weight r.size) (clear_behind r) earlier call) (path_limit (is_too_deep r earlier call))
+limit_at r earlier call = or_limit (pending_limit_at r earlier call) (handle_limit_at r earlier call)
 
 -- none of the calls reaches one
 abbrev pub IsWithin : Rank → List Call → Type 0

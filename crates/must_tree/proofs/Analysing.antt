@@ -1,10 +1,11 @@
 -- One turn of the analysis, and its answers.
-use Rattle.std.proofs.Common.{◌≡◌, ℕ, zero, suc, ◌+◌, ◌<◌, ◌≤◌, List, [], ◌∷◌, length, map, get_or, Option, Some, Err, refl, sym, ap, subst, ◌∙◌, inl, inr, arith, zero-add}
+use Rattle.std.proofs.Common.{◌≡◌, ℕ, zero, suc, ◌+◌, ◌<◌, ◌≤◌, List, [], ◌∷◌, ◌++◌, length, map, get_or, Option, Some, Err, refl, sym, ap, subst, ◌∙◌, inl, inr, arith, zero-add}
 use Rattle.std.proofs.Math.ListN.{set}
-use Rattle.std.specs.Prelude.{slice_get}
+use Rattle.std.specs.Prelude.{Bool, true, ◌↔◌, slice_get}
 use Rattle.std.specs.Option.{option_map}
 use Rattle.std.specs.List.{AllByRecursion}
 use Rattle.std.proofs.lemmas.Bool.{cases_order}
+use Rattle.std.proofs.lemmas.List.Concat.{flat_map-append}
 use Rattle.std.proofs.lemmas.List.{length-map, length-set, get_or-set_same, get_or-set_other}
 use Rattle.std.proofs.lemmas.Option.{slice_get-map, slice_get-get_or}
 use Rattle.must_base.specs.Causes.{Rose}
@@ -15,20 +16,53 @@ use Rattle.must_format.specs.declared.fault.StreamFault.{StreamFault}
 use Rattle.must_format.specs.declared.fault.StreamFault.TheVariants as fault
 use Rattle.must_rules.specs.Streams.{Accepted}
 use Rattle.must_rules.specs.LimitLaws.{accepted_is_one}
+use Rattle.must_base.specs.Listing.{Has}
 use Rattle.must_find.specs.declared.finding.Finding.{Finding}
 use Rattle.must_find.specs.Order.{by_all}
-use Rattle.must_rules.specs.Run.{size_of}
 use Rattle.must_find.specs.Adds.{Adds}
+use Rattle.must_coll.specs.declared.item.WaveItem.{WaveItem}
+use Rattle.must_entry.specs.declared.range.RankRange.{RankRange}
+use Rattle.must_entry.specs.declared.entry.Entry.{Entry}
+use Rattle.must_entry.specs.declared.batch.Batch.{Batch}
+use Rattle.must_entry.specs.Entries.{rows_of, entries_of}
+use Rattle.must_entry.specs.Entries as entries
+use Rattle.must_entry.specs.Lawful.{Rise, IsLawful}
+use Rattle.must_entry.specs.CallLaws.{calls_once}
+use Rattle.must_call.specs.declared.place.Place.{Place}
+use Rattle.must_coll.specs.OneRowLaws.{HaveDistinctMembers}
+use Rattle.must_node.specs.declared.node.Node.{Node}
+use Rattle.must_node.specs.declared.closed.Closed.{Closed}
+use Rattle.must_node.specs.Nodes.{StandsFor}
+use Rattle.must_node.specs.Closing.{Settles}
+use Rattle.must_node.specs.EntryRows.{IsRow}
+use Rattle.must_node.specs.Inner.{inner}
+use Rattle.must_node.specs.ListLaws.{all_pass}
+use Rattle.must_rules.specs.Rank.{Rank}
+use Rattle.must_rules.specs.Run.{Run, Mode, size_of}
 use Rattle.must_rules.specs.Local.{IsLocal}
 use Rattle.must_rules.specs.RunRows.{rank_in}
-use Rattle.must_rules.specs.RunRowLaws.{below_first, below_more, below_all}
+use Rattle.must_rules.specs.RunRowLaws.{below_first, below_more}
 use Rattle.must_rules.specs.Streams.{recorded_of}
 use Rattle.must_rules.specs.StreamRuns.{AreComplete, run_of}
+use Rattle.must_run.specs.RunWaves.{AreItemsBelow}
+use Rattle.must_run.specs.RunRows.{IsRunRow, AreRunRows}
+use Rattle.must_run.specs.RowPlaces.{row_one, rise_by_place}
+use Rattle.must_run.specs.WaveLists.{items_first, items_more, items_all}
+use Rattle.must_run.specs.RankLaws.{all_findings}
+use Rattle.must_local.specs.DistinctLaws.{has_append, has_front, has_behind}
+use Rattle.must_local.specs.Walks.{GivesAll, all_rows, collectives}
 use Rattle.must_tree.specs.Told.{flat, told_at, IsLeftOf, AreTied, ShowsNoRefusal}
 use Rattle.must_tree.specs.ToldLaws.{told_within, told_of, stream_at}
 use Rattle.must_tree.specs.Reading.{AreTold, AreAccepted, ReadsRun, RunRows, StopsAt, Analyses}
-use Rattle.must_tree.specs.Ranks.{ReadsRank, IsFaultOf, HasRowsBelow, fault_at}
+use Rattle.must_tree.specs.Ranks.{all_ranks, GivesRank, ReadsRank, HoldsRanks, HoldsBelow, IsFaultOf, fault_at}
+use Rattle.must_tree.proofs.Lawful.{none_lower, batch_calls}
+use Rattle.must_tree.proofs.Members.{distinct_both}
+use Rattle.must_tree.proofs.RowParts.{row_parts, row_from}
 use Rattle.must_tree.proofs.Reached.{left_unread}
+
+-- what a node promises of its end
+abbrev pub Closes : Node → Closed → Type 0
+Closes node closed = (range : RankRange) (root : Bool) (taken handed : List Batch) → StandsFor node range root taken handed → IsLawful range taken → Settles closed (inner root range (entries_of taken))
 
 -- ---- the bytes of a rank
 
@@ -61,37 +95,53 @@ part_at {S} left faults ps k d within =
 
 -- ---- the analysis so far
 
-pub record Analysing {S : Type 0} (left : S → Option (List ℕ)) (faults : S → ℕ) (first ps : List S) (k : ℕ) (fs : List Finding) : Type 0 where
+pub record Analysing {S : Type 0} (left : S → Option (List ℕ)) (faults : S → ℕ) (first ps : List S) (k : ℕ) (node : Node) : Type 0 where
   pub length_is : length ps ≡ length first
   pub unread : (q : ℕ) (d : S) → k ≤ q → get_or ps q d ≡ get_or first q d
   pub accepted : AreAccepted (map left first) k
   pub read : (q : ℕ) (d : S) (bytes : List ℕ) → q < k → told_at (map left first) q ≡ Some bytes → left (get_or ps q d) ≡ Some []
   pub tied : (q : ℕ) (d : S) (bytes : List ℕ) → q < k → told_at (map left first) q ≡ Some bytes → IsLeftOf bytes (left (get_or ps q d))
-  pub rows : (streams : List (List ℕ)) → AreTold (map left first) streams → HasRowsBelow streams k fs
+  pub rows : (streams : List (List ℕ)) → AreTold (map left first) streams → HoldsBelow streams k node
 
-pub at_first : {S : Type 0} (left : S → Option (List ℕ)) (faults : S → ℕ) (ps : List S) → Analysing left faults ps ps 0 []
-at_first left faults ps = record {
+length_told : {S : Type 0} (left : S → Option (List ℕ)) (first : List S) (streams : List (List ℕ)) → AreTold (map left first) streams → length streams ≡ length first
+length_told left first streams told = sym (length-map streams Some) ∙ sym (ap length told) ∙ length-map first left
+
+pub at_first : {S : Type 0} (left : S → Option (List ℕ)) (faults : S → ℕ) (ps : List S) (node : Node) → StandsFor node (all_ranks (length ps)) true [] [] → Analysing left faults ps ps 0 node
+at_first left faults ps node stands = record {
   length_is = refl;
   unread = λ q d h. refl;
   accepted = λ q h. absurd (omega (arith, h));
   read = λ q d bytes h e. absurd (omega (arith, h));
   tied = λ q d bytes h e. absurd (omega (arith, h));
-  rows = λ streams told run mode records. below_first run mode;
+  rows = λ streams told run mode records.
+      let n : size_of run ≡ length ps = records.size ∙ length_told left ps streams told in
+      record {
+        batches = [];
+        holds = record { lower = none_lower (size_of run); stands = subst (λ (m : ℕ). StandsFor node (all_ranks m) true [] []) (sym n) stands };
+        rows = below_first run mode;
+        items = items_first run;
+        distinct = λ x h. absurd h;
+      };
 }
 
 -- what reading a rank promises
-abbrev pub Reads : {S : Type 0} → (S → Option (List ℕ)) → ℕ → ℕ → S → S → List Finding → List Finding → Type 0
-Reads left k n old new fs more = (bytes : List ℕ) → left old ≡ Some bytes → ReadsRank k n bytes fs more × (left new ≡ Some [])
+abbrev pub Reads : {S : Type 0} → (S → Option (List ℕ)) → ℕ → ℕ → S → S → Node → Node → Type 0
+Reads left k n old new node more = (bytes : List ℕ) → left old ≡ Some bytes → ReadsRank k n bytes node more × (left new ≡ Some [])
 
 abbrev pub Ties : {S : Type 0} → (S → Option (List ℕ)) → S → S → Type 0
 Ties left old new = (bytes : List ℕ) → left old ≡ Some bytes → IsLeftOf bytes (left new)
 
-length_told : {S : Type 0} (left : S → Option (List ℕ)) (first : List S) (streams : List (List ℕ)) → AreTold (map left first) streams → length streams ≡ length first
-length_told left first streams told = sym (length-map streams Some) ∙ sym (ap length told) ∙ length-map first left
+-- the rows of one rank more
+rows_added : (r : Rank) (calls : List Call) (before given : List Batch) → GivesAll r calls given → Adds (all_rows before) (all_rows (before ++ given)) (IsLocal r calls)
+rows_added r calls before given gives =
+    subst (λ (fs : List Finding). Adds (all_rows before) fs (IsLocal r calls)) (sym (flat_map-append (λ (b : Batch). rows_of b.entries) before given)) (λ f. (
+      λ h. elim (has_append (all_rows before) (all_rows given) f h) [ inl there ↦ inl there | inr x ↦ inr ((gives.rows f).0 x) ],
+      λ h. elim h [ inl there ↦ has_front (all_rows before) (all_rows given) f there | inr x ↦ has_behind (all_rows before) (all_rows given) f ((gives.rows f).1 x) ],
+    ))
 
-rows_more : {S : Type 0} (left : S → Option (List ℕ)) (first : List S) (k : ℕ) (old new : S) (fs more : List Finding) (streams : List (List ℕ))
-    → k < length first → told_at (map left first) k ≡ left old → Reads left k (length first) old new fs more → AreTold (map left first) streams → HasRowsBelow streams k fs → HasRowsBelow streams (k + 1) more
-rows_more left first k old new fs more streams within is reads told below run mode records =
+rows_more : {S : Type 0} (left : S → Option (List ℕ)) (first : List S) (k : ℕ) (old new : S) (node more : Node) (streams : List (List ℕ))
+    → k < length first → told_at (map left first) k ≡ left old → Reads left k (length first) old new node more → AreTold (map left first) streams → HoldsBelow streams k node → HoldsBelow streams (k + 1) more
+rows_more left first k old new node more streams within is reads told below run mode records =
     let n = length_told left first streams told in
     let s = stream_at streams k (omega (arith, n, within)) in
     let known : left old ≡ Some s.0 = sym is ∙ ap (λ (os : List (Option (List ℕ))). told_at os k) told ∙ told_of streams k s.0 s.1 in
@@ -100,9 +150,19 @@ rows_more left first k old new fs more streams within is reads told below run mo
     let here = records.each k s.0 s.1 in
     let accepted : Accepted k (length streams) s.0 r.calls = subst (λ (m : ℕ). Accepted k m s.0 r.calls) (sym n) r.accepted in
     let same : r.calls ≡ here.calls = accepted_is_one k (length streams) s.0 r.calls here.calls accepted here.accepted in
-    below_more run mode k (recorded_of s.0 here.calls) fs more here.recorded_is
-    (subst (λ (cs : List Call). Adds fs more (IsLocal (rank_in (size_of run) k (recorded_of s.0 cs)) cs)) same (subst (λ (m : ℕ). Adds fs more (IsLocal (rank_in m k (recorded_of s.0 r.calls)) r.calls)) (sym n_is) r.adds))
-    (below run mode records)
+    let recorded = recorded_of s.0 here.calls in
+    let rank = rank_in (size_of run) k recorded in
+    let gives : GivesRank rank here.calls node more =
+    subst (λ (cs : List Call). GivesRank (rank_in (size_of run) k (recorded_of s.0 cs)) cs node more) same (subst (λ (m : ℕ). GivesRank (rank_in m k (recorded_of s.0 r.calls)) r.calls node more) (sym n_is) r.gives) in
+    let h = below run mode records in
+    record {
+      batches = h.batches ++ gives.given;
+      holds = gives.takes h.batches h.holds;
+      rows = below_more run mode k recorded (all_rows h.batches) (all_rows (h.batches ++ gives.given)) here.recorded_is (rows_added rank here.calls h.batches gives.given gives.gives) h.rows;
+      items = subst (λ (l : List WaveItem). AreItemsBelow run (k + 1) l) (sym (flat_map-append (λ (b : Batch). entries.calls b.entries) h.batches gives.given))
+          (items_more run k recorded (collectives h.batches) (collectives gives.given) here.recorded_is h.items gives.gives.waves);
+      distinct = subst HaveDistinctMembers (sym (flat_map-append (λ (b : Batch). entries.calls b.entries) h.batches gives.given)) (distinct_both (collectives h.batches) (collectives gives.given) h.distinct gives.distinct);
+    }
 
 tied_at : {S : Type 0} (left : S → Option (List ℕ)) (first ps : List S) (k q : ℕ) (e d new : S) (bytes : List ℕ) → k < length ps → q ≡ k → get_or ps k d ≡ get_or first k d → k < length first → Ties left (get_or ps k d) new
     → told_at (map left first) q ≡ Some bytes → IsLeftOf bytes (left (get_or (set ps k new) q e))
@@ -111,9 +171,9 @@ tied_at {S} left first ps k q e d new bytes here same unread within ties told =
     let was : left (get_or ps k d) ≡ Some bytes = ap left unread ∙ sym (told_is left first k d within) ∙ ap (λ m. told_at (map left first) m) (sym same) ∙ told in
     subst (λ (s : S). IsLeftOf bytes (left s)) (sym there) (ties bytes was)
 
-pub one_more : {S : Type 0} (left : S → Option (List ℕ)) (faults : S → ℕ) (first ps : List S) (k : ℕ) (fs more : List Finding) (d new : S)
-    → k < length first → Reads left k (length first) (get_or ps k d) new fs more → Ties left (get_or ps k d) new → Analysing left faults first ps k fs → Analysing left faults first (set ps k new) (k + 1) more
-one_more {S} left faults first ps k fs more d new within reads ties w =
+pub one_more : {S : Type 0} (left : S → Option (List ℕ)) (faults : S → ℕ) (first ps : List S) (k : ℕ) (node more : Node) (d new : S)
+    → k < length first → Reads left k (length first) (get_or ps k d) new node more → Ties left (get_or ps k d) new → Analysing left faults first ps k node → Analysing left faults first (set ps k new) (k + 1) more
+one_more {S} left faults first ps k node more d new within reads ties w =
     let here : k < length ps = omega (arith, w.length_is, within) in
     let is = told_is left first k d within ∙ ap left (sym (w.unread k d (omega arith))) in
     record {
@@ -136,7 +196,7 @@ one_more {S} left faults first ps k fs more d new within reads ties w =
         | inr (inl less) ↦ subst (λ (s : S). IsLeftOf bytes (left s)) (sym (get_or-set_other ps k q new e (λ same. omega (arith, same, less)))) (w.tied q e bytes less told)
         | inr (inr far) ↦ absurd (omega (arith, h))
       ];
-      rows = λ streams told. rows_more left first k (get_or ps k d) new fs more streams within is reads told (w.rows streams told);
+      rows = λ streams told. rows_more left first k (get_or ps k d) new node more streams within is reads told (w.rows streams told);
     }
 
 -- ---- the end
@@ -148,19 +208,47 @@ complete told streams is accepted = λ at bytes e.
     let n : length told ≡ length streams = ap length is ∙ length-map streams Some in
     (a.0, subst (λ (m : ℕ). Accepted m (length streams) bytes a.0) (sym (zero-add at)) (subst (λ (m : ℕ). Accepted at m bytes a.0) n a.1))
 
-whole_run : (told : List (Option (List ℕ))) (k : ℕ) (fs : List Finding) (streams : List (List ℕ)) → length told ≤ k → AreTold told streams → AreAccepted told (length told) → HasRowsBelow streams k fs → Rises by_all fs → RunRows streams fs
-whole_run told k fs streams far is accepted below rises =
+-- the rows of what a root node was given
+rows_settled : (run : Run) (mode : Mode) (k : ℕ) (node : Node) (closed : Closed) → length run.ranks ≤ k → Closes node closed → Rises by_all closed.findings → HoldsRanks run mode k node → AreRunRows run mode closed.findings
+rows_settled run mode k node closed far closes rises h =
+    let all = entries_of h.batches in
+    let settles = closes (all_ranks (size_of run)) true h.batches [] h.holds.stands h.holds.lower.lawful in
+    let inner_is : inner true (all_ranks (size_of run)) all ≡ all = all_pass all in
+    let exact : (f : Finding) → Has closed.findings f ↔ IsRow all f = λ f. subst (λ (es : List Entry). Has closed.findings f ↔ IsRow es f) inner_is (settles.rows f) in
+    let once = calls_once (collectives h.batches) (subst (λ (l : List WaveItem). Rise (map {B = Place} (λ (x : WaveItem). x.place) l)) (batch_calls h.batches) h.holds.lower.lawful.calls) in
+    let given : (f : Finding) → Has closed.findings f → IsRunRow run mode (collectives h.batches) f = λ f has. elim (row_parts h.batches f h.holds.lower.silent ((exact f).0 has)) [
+      | inl own ↦ inl ((all_findings run mode k (all_rows h.batches) f far h.rows).0 own)
+      | inr wave ↦ inr wave
+    ] in
+    record {
+      items = collectives h.batches;
+      are_items = items_all run k (collectives h.batches) far h.items;
+      lists = record {
+        rises = rise_by_place closed.findings (λ f g p q s. row_one run mode (collectives h.batches) f g once h.distinct s (given f p) (given g q)) rises;
+        exact = λ f. (
+          given f,
+          λ is. elim is [
+            | inl own ↦ (exact f).1 (row_from h.batches f (inl ((all_findings run mode k (all_rows h.batches) f far h.rows).1 own)))
+            | inr wave ↦ (exact f).1 (row_from h.batches f (inr wave))
+          ],
+        );
+      };
+    }
+
+whole_run : (told : List (Option (List ℕ))) (k : ℕ) (node : Node) (closed : Closed) (streams : List (List ℕ)) → length told ≤ k → AreTold told streams → AreAccepted told (length told) → HoldsBelow streams k node → Closes node closed → Rises by_all closed.findings
+    → RunRows streams closed.findings
+whole_run told k node closed streams far is accepted below closes rises =
     let r = run_of streams (complete told streams is accepted) in
     let n : length told ≡ length streams = ap length is ∙ length-map streams Some in
     record {
       run = r.0;
       records = r.1;
-      are_rows = λ mode. below_all r.0 mode k fs (omega (arith, r.1.size, n, far)) rises (below r.0 mode r.1);
+      are_rows = λ mode. rows_settled r.0 mode k node closed (omega (arith, r.1.size, n, far)) closes rises (below r.0 mode r.1);
     }
 
-pub at_last : {S : Type 0} (left : S → Option (List ℕ)) (faults : S → ℕ) (first ps : List S) (k : ℕ) (fs : List Finding)
-    → length first ≤ k → Rises by_all fs → Analysing left faults first ps k fs → ReadsRun (map left first) (parts_of left faults ps) fs
-at_last {S} left faults first ps k fs far rises w =
+pub at_last : {S : Type 0} (left : S → Option (List ℕ)) (faults : S → ℕ) (first ps : List S) (k : ℕ) (node : Node) (closed : Closed)
+    → length first ≤ k → Closes node closed → Rises by_all closed.findings → Analysing left faults first ps k node → ReadsRun (map left first) (parts_of left faults ps) closed.findings
+at_last {S} left faults first ps k node closed far closes rises w =
     let n = length-map first left in
     let accepted : AreAccepted (map left first) (length (map left first)) = λ q h. w.accepted q (omega (arith, n, h, far)) in
     record {
@@ -172,7 +260,7 @@ at_last {S} left faults first ps k fs far rises w =
             part_at left faults ps q d within,
             w.read q d bytes (omega (arith, within, w.length_is, far)) told,
           );
-      of_run = λ streams told. whole_run (map left first) k fs streams (omega (arith, n, far)) told accepted (w.rows streams told) rises;
+      of_run = λ streams told. whole_run (map left first) k node closed streams (omega (arith, n, far)) told accepted (w.rows streams told) closes rises;
     }
 
 -- each part is that of its file
@@ -191,12 +279,16 @@ tied_from {S} left faults first ps len tied =
           );
     }
 
-pub tied_at_last : {S : Type 0} (left : S → Option (List ℕ)) (faults : S → ℕ) (first ps : List S) (k : ℕ) (fs : List Finding) → length first ≤ k → Analysing left faults first ps k fs → AreTied (map left first) (parts_of left faults ps)
-tied_at_last left faults first ps k fs far w = tied_from left faults first ps w.length_is (λ q d bytes within told. w.tied q d bytes (omega (arith, within, far)) told)
+-- no part was read
+pub tied_at_first : {S : Type 0} (left : S → Option (List ℕ)) (faults : S → ℕ) (ps : List S) → AreTied (map left ps) (parts_of left faults ps)
+tied_at_first left faults ps = tied_from left faults ps ps refl (λ q d bytes within told. left_unread bytes (left (get_or ps q d)) (sym (told_is left ps q d within) ∙ told))
 
-pub tied_at_fault : {S : Type 0} (left : S → Option (List ℕ)) (faults : S → ℕ) (first ps : List S) (k : ℕ) (d new : S) (fs : List Finding) → k < length first → Ties left (get_or ps k d) new → Analysing left faults first ps k fs
+pub tied_at_last : {S : Type 0} (left : S → Option (List ℕ)) (faults : S → ℕ) (first ps : List S) (k : ℕ) (node : Node) → length first ≤ k → Analysing left faults first ps k node → AreTied (map left first) (parts_of left faults ps)
+tied_at_last left faults first ps k node far w = tied_from left faults first ps w.length_is (λ q d bytes within told. w.tied q d bytes (omega (arith, within, far)) told)
+
+pub tied_at_fault : {S : Type 0} (left : S → Option (List ℕ)) (faults : S → ℕ) (first ps : List S) (k : ℕ) (d new : S) (node : Node) → k < length first → Ties left (get_or ps k d) new → Analysing left faults first ps k node
     → AreTied (map left first) (parts_of left faults (set ps k new))
-tied_at_fault {S} left faults first ps k d new fs within ties w =
+tied_at_fault {S} left faults first ps k d new node within ties w =
     let here : k < length ps = omega (arith, w.length_is, within) in
     tied_from left faults first (set ps k new) (length-set ps k new ∙ w.length_is) (λ q e bytes inside told. elim (cases_order q k) [
       | inl same ↦ tied_at left first ps k q e d new bytes here same (w.unread k d (omega arith)) within ties told
@@ -217,11 +309,11 @@ refused_at : {S : Type 0} (left : S → Option (List ℕ)) (first : List S) (k :
     → ((bytes : List ℕ) → left old ≡ Some bytes → IsFaultOf k (length first) bytes after f) → (bytes : List ℕ) → told_at (map left first) k ≡ Some bytes → IsFaultOf k (length (map left first)) bytes after f
 refused_at left first k old after f is faulty bytes told = subst (λ (m : ℕ). IsFaultOf k m bytes after f) (sym (length-map first left)) (faulty bytes (sym is ∙ told))
 
-read_at : {S : Type 0} (left : S → Option (List ℕ)) (faults : S → ℕ) (first ps : List S) (k : ℕ) (d new : S) (fs : List Finding)
-    → k < length first → AllByRecursion (λ p. faults p ≡ 0) first → Analysing left faults first ps k fs → Rose (faults (get_or ps k d)) (faults new)
+read_at : {S : Type 0} (left : S → Option (List ℕ)) (faults : S → ℕ) (first ps : List S) (k : ℕ) (d new : S) (node : Node)
+    → k < length first → AllByRecursion (λ p. faults p ≡ 0) first → Analysing left faults first ps k node → Rose (faults (get_or ps k d)) (faults new)
     → ((bytes : List ℕ) → told_at (map left first) k ≡ Some bytes → ShowsNoRefusal k (length (map left first)) bytes (left new))
     → StopsAt (map left first) (parts_of left faults (set ps k new)) k fault.Read
-read_at left faults first ps k d new fs within fresh w rose shows =
+read_at left faults first ps k d new node within fresh w rose shows =
     let here : k < length (set ps k new) = omega (arith, length-set ps k new, w.length_is, within) in
     let same = get_or-set_same ps k new d (omega (arith, w.length_is, within)) in
     let was : faults (get_or ps k d) ≡ 0 = ap faults (w.unread k d (omega arith)) ∙ none_risen faults first k d fresh within in (
@@ -231,27 +323,27 @@ read_at left faults first ps k d new fs within fresh w rose shows =
       λ bytes told. subst (λ (o : Option (List ℕ)). ShowsNoRefusal k (length (map left first)) bytes o) (ap left (sym same)) (shows bytes told),
     )
 
-pub at_fault : {S : Type 0} (left : S → Option (List ℕ)) (faults : S → ℕ) (first ps : List S) (k : ℕ) (d new : S) (fs : List Finding) (f : StreamFault)
-    → k < length first → AllByRecursion (λ p. faults p ≡ 0) first → Analysing left faults first ps k fs
+pub at_fault : {S : Type 0} (left : S → Option (List ℕ)) (faults : S → ℕ) (first ps : List S) (k : ℕ) (d new : S) (node : Node) (f : StreamFault)
+    → k < length first → AllByRecursion (λ p. faults p ≡ 0) first → Analysing left faults first ps k node
     → ((bytes : List ℕ) → left (get_or ps k d) ≡ Some bytes → IsFaultOf k (length first) bytes (left new) f)
     → (f ≡ fault.Read → Rose (faults (get_or ps k d)) (faults new))
     → Analyses (map left first) (parts_of left faults (set ps k new)) (Err (fault_at k f))
-at_fault left faults first ps k d new fs (fault.Malformed at c) within fresh w faulty rose =
+at_fault left faults first ps k d new node (fault.Malformed at c) within fresh w faulty rose =
     record {
       within = omega (arith, length-map first left, within);
       lower = w.accepted;
       stops = refused_at left first k (get_or ps k d) (left new) (fault.Malformed at c) (told_is left first k d within ∙ ap left (sym (w.unread k d (omega arith)))) faulty;
     }
-at_fault left faults first ps k d new fs (fault.Bound at l) within fresh w faulty rose =
+at_fault left faults first ps k d new node (fault.Bound at l) within fresh w faulty rose =
     record {
       within = omega (arith, length-map first left, within);
       lower = w.accepted;
       stops = refused_at left first k (get_or ps k d) (left new) (fault.Bound at l) (told_is left first k d within ∙ ap left (sym (w.unread k d (omega arith)))) faulty;
     }
-at_fault left faults first ps k d new fs fault.Read within fresh w faulty rose =
+at_fault left faults first ps k d new node fault.Read within fresh w faulty rose =
     record {
       within = omega (arith, length-map first left, within);
       lower = w.accepted;
-      stops = read_at left faults first ps k d new fs within fresh w (rose refl) (refused_at left first k (get_or ps k d) (left new) fault.Read (told_is left first k d within ∙ ap left (sym (w.unread k d (omega arith)))) faulty);
+      stops = read_at left faults first ps k d new node within fresh w (rose refl) (refused_at left first k (get_or ps k d) (left new) fault.Read (told_is left first k d within ∙ ap left (sym (w.unread k d (omega arith)))) faulty);
     }
-at_fault left faults first ps k d new fs fault.NoMemory within fresh w faulty rose = tt
+at_fault left faults first ps k d new node fault.NoMemory within fresh w faulty rose = tt

@@ -1,5 +1,5 @@
 -- How far the stream of a rank was read.
-use Rattle.std.proofs.Common.{◌≡◌, ℕ, List, [], ◌∷◌, ◌++◌, length, Option, Some, None, Result, Ok, Err, refl, sym, ap, subst, ◌∙◌, inl, inr, append_assoc, append-nil}
+use Rattle.std.proofs.Common.{◌≡◌, ℕ, ◌<◌, List, [], ◌∷◌, ◌++◌, length, Option, Some, None, Result, Ok, Err, refl, sym, ap, subst, ◌∙◌, inl, inr, append_assoc, append-nil}
 use Rattle.std.specs.Prelude.{ℤ, IfErr}
 use Rattle.std.specs.Option.{option_map}
 use Rattle.must_call.specs.declared.call.Call.{Call}
@@ -11,13 +11,11 @@ use Rattle.must_format.specs.declared.header.Header.{Header}
 use Rattle.must_format.specs.Stream.{IsStream, AreCalls, BodyReading, whose, header_fault, header_of, header_past, tag_ub_of, version_of}
 use Rattle.must_codec.specs.Reader.{Phase, ReaderState, Stands, StandsFor, ShowsNone, Gave, Fresh, Before, Ended, Failed}
 use Rattle.must_codec.specs.Views.{IsBefore, IsOpen, Leaves}
-use Rattle.must_find.specs.declared.finding.Finding.{Finding}
-use Rattle.must_find.specs.Adds.{Adds}
+use Rattle.must_node.specs.declared.node.Node.{Node}
 use Rattle.must_rules.specs.Rank.{Rank}
 use Rattle.must_rules.specs.Limits.{limit_at, IsWithin}
 use Rattle.must_rules.specs.LimitLaws.{within_none, accepted_or_refused, bad_is_one}
 use Rattle.must_rules.specs.Streams.{rank_told, Refused}
-use Rattle.must_rules.specs.Local.{IsLocal}
 use Rattle.must_format.specs.declared.cause.Limit.{Limit}
 use Rattle.must_entry.specs.declared.batch.Batch.{Batch}
 use Rattle.must_local.specs.declared.fault.WalkFault.{WalkFault}
@@ -25,7 +23,7 @@ use Rattle.must_local.specs.declared.fault.WalkFault.TheVariants as walk_fault
 use Rattle.must_local.specs.HandlesKnown.{IsLimitAt}
 use Rattle.must_local.specs.Walks.{RankTold, rank_by, WalkState, Walks}
 use Rattle.must_tree.specs.Told.{IsLeftOf, IsTooShort}
-use Rattle.must_tree.specs.Ranks.{Gathers, ReadsRank, IsFaultOf, IsLimitFault}
+use Rattle.must_tree.specs.Ranks.{Gathers, GivesRank, ReadsRank, IsFaultOf, IsLimitFault}
 use Rattle.must_tree.specs.Beside.{Stood, Reached, told_by, Beside, Walked, AllTaken}
 use Rattle.must_tree.proofs.Gathering.{gathers_first}
 
@@ -127,13 +125,13 @@ header_is bytes left r calls None leaves s =
 -- ---- the walk beside the reader
 
 -- the first answer of the reader
-pub walked_first : (rank n : ℕ) (tag : ℤ) (bytes : List ℕ) (left : Option (List ℕ)) (reader : ReaderState) (next : Option Call) (w : WalkState) (fs : List Finding)
-    → Leaves reader.phase (Ok next) → Reached bytes left reader [] next → ((t : ℤ) → option_map (λ (h : Header). h.tag_ub) reader.header ≡ Some t → tag ≡ t)
+pub walked_first : (rank n : ℕ) (tag : ℤ) (bytes : List ℕ) (left : Option (List ℕ)) (reader : ReaderState) (next : Option Call) (w : WalkState) (fs : Node)
+    → rank < n → Leaves reader.phase (Ok next) → Reached bytes left reader [] next → ((t : ℤ) → option_map (λ (h : Header). h.tag_ub) reader.header ≡ Some t → tag ≡ t)
     → ((version : ℕ) → Walks version w [] []) → w.rank ≡ record { rank = rank; size = n; tag_ub = tag } → Walked rank n bytes left reader next w fs fs
-walked_first rank n tag bytes left reader next w fs leaves reached greatest walks is =
+walked_first rank n tag bytes left reader next w fs within leaves reached greatest walks is =
     let tag_is = greatest (tag_ub_of bytes) (ap (option_map (λ (h : Header). h.tag_ub)) (header_is bytes left reader [] next leaves reached)) in
     let told : ℤ → RankTold = λ t. record { rank = rank; size = n; tag_ub = t } in
-    record { calls = []; reached = reached; gathers = gathers_first (told_by rank n bytes) w fs walks (is ∙ ap told tag_is) }
+    record { calls = []; reached = reached; gathers = gathers_first (told_by rank n bytes) w fs within walks (is ∙ ap told tag_is) }
 
 abbrev told_with : ℕ → ℕ → ℤ → RankTold
 told_with rank n tag = record { rank = rank; size = n; tag_ub = tag }
@@ -143,15 +141,15 @@ pub told_tag : (t : RankTold) (rank n : ℕ) (tag raw : ℤ) → t ≡ record { 
 told_tag t rank n tag raw is same = is ∙ ap (λ (z : ℤ). told_with rank n z) same
 
 -- a new reader, its first answer, and a new walk
-pub begun : (rank n : ℕ) (tag : ℤ) (bytes : List ℕ) (left left' : Option (List ℕ)) (e : Option Expect) (old new : ReaderState) (next : Option Call) (w : WalkState) (fs : List Finding)
-    → left ≡ Some bytes → old ≡ record { expect = e; unread = []; header = None; at = 0; phase = Fresh } → Given old new left left' (Ok next) → Leaves new.phase (Ok next)
+pub begun : (rank n : ℕ) (tag : ℤ) (bytes : List ℕ) (left left' : Option (List ℕ)) (e : Option Expect) (old new : ReaderState) (next : Option Call) (w : WalkState) (fs : Node)
+    → rank < n → left ≡ Some bytes → old ≡ record { expect = e; unread = []; header = None; at = 0; phase = Fresh } → Given old new left left' (Ok next) → Leaves new.phase (Ok next)
     → ((t : ℤ) → option_map (λ (h : Header). h.tag_ub) new.header ≡ Some t → tag ≡ t) → ((version : ℕ) → Walks version w [] []) → w.rank ≡ record { rank = rank; size = n; tag_ub = tag }
     → Walked rank n bytes left' new next w fs fs
-begun rank n tag bytes left left' e old new next w fs left_is fresh given leaves greatest walks is =
-    walked_first rank n tag bytes left' new next w fs leaves (reached_more bytes left left' old new [] next given (fresh_open old e fresh) (fresh_stood bytes left old e left_is fresh)) greatest walks is
+begun rank n tag bytes left left' e old new next w fs within left_is fresh given leaves greatest walks is =
+    walked_first rank n tag bytes left' new next w fs within leaves (reached_more bytes left left' old new [] next given (fresh_open old e fresh) (fresh_stood bytes left old e left_is fresh)) greatest walks is
 
-abbrev Took : WalkState → WalkState → Call → List Finding → List Finding → Type 0
-Took w v call old new = (told : RankTold) (calls : List Call) (first : List Finding) → Gathers told w calls first old → Gathers told v (calls ++ call ∷ []) first new
+abbrev Took : WalkState → WalkState → Call → Node → Node → Type 0
+Took w v call old new = (told : RankTold) (calls : List Call) (first : Node) → Gathers told w calls first old → Gathers told v (calls ++ call ∷ []) first new
 
 pub call_reached : (bytes : List ℕ) (left : Option (List ℕ)) (reader : ReaderState) (calls : List Call) (next : Option Call) (call : Call) → next ≡ Some call → Reached bytes left reader calls next → Reached bytes left reader calls (Some call)
 call_reached bytes left reader calls next call is s = subst (λ (o : Option Call). Reached bytes left reader calls o) is s
@@ -160,7 +158,7 @@ stood_call : (bytes : List ℕ) (left : Option (List ℕ)) (reader : ReaderState
 stood_call bytes left reader calls next call is s = (call_reached bytes left reader calls next call is s).0
 
 -- a call more
-pub beside_more : (rank n : ℕ) (bytes : List ℕ) (left left' : Option (List ℕ)) (old new : ReaderState) (next : Option Call) (call : Call) (w v : WalkState) (first fs gs : List Finding)
+pub beside_more : (rank n : ℕ) (bytes : List ℕ) (left left' : Option (List ℕ)) (old new : ReaderState) (next : Option Call) (call : Call) (w v : WalkState) (first fs gs : Node)
     → next ≡ Some call → Took w v call fs gs → Given old new left left' (Ok next) → IsOpen old.phase → Beside rank n bytes left old w first fs → Beside rank n bytes left' new v first gs
 beside_more rank n bytes left left' old new next call w v first fs gs is took given «open» b = record {
   calls = b.calls ++ call ∷ [];
@@ -169,7 +167,7 @@ beside_more rank n bytes left left' old new next call w v first fs gs is took gi
 }
 
 -- the call that was given first
-pub beside_first : (rank n : ℕ) (bytes : List ℕ) (left : Option (List ℕ)) (reader : ReaderState) (next : Option Call) (call : Call) (w v : WalkState) (first fs gs : List Finding)
+pub beside_first : (rank n : ℕ) (bytes : List ℕ) (left : Option (List ℕ)) (reader : ReaderState) (next : Option Call) (call : Call) (w v : WalkState) (first fs gs : Node)
     → next ≡ Some call → Took w v call fs gs → Walked rank n bytes left reader next w first fs → Beside rank n bytes left reader v first gs
 beside_first rank n bytes left reader next call w v first fs gs is took k = record {
   calls = k.calls ++ call ∷ [];
@@ -178,11 +176,11 @@ beside_first rank n bytes left reader next call w v first fs gs is took k = reco
 }
 
 -- the calls that a walk took reach no limit
-pub within_gathered : (rank n : ℕ) (bytes : List ℕ) (w : WalkState) (calls : List Call) (first fs : List Finding) → Gathers (told_by rank n bytes) w calls first fs → IsWithin (rank_told rank n bytes) calls
+pub within_gathered : (rank n : ℕ) (bytes : List ℕ) (w : WalkState) (calls : List Call) (first fs : Node) → Gathers (told_by rank n bytes) w calls first fs → IsWithin (rank_told rank n bytes) calls
 within_gathered rank n bytes w calls first fs g = subst (λ (t : RankTold). IsWithin (rank_by (version_of bytes) t) calls) g.rank_is (g.walks (version_of bytes)).within
 
 -- the end
-pub walked_all : (rank n : ℕ) (bytes : List ℕ) (left : Option (List ℕ)) (reader : ReaderState) (next : Option Call) (w : WalkState) (first fs : List Finding)
+pub walked_all : (rank n : ℕ) (bytes : List ℕ) (left : Option (List ℕ)) (reader : ReaderState) (next : Option Call) (w : WalkState) (first fs : Node)
     → next ≡ None → reader.expect ≡ whose rank n → Leaves reader.phase (Ok next) → Walked rank n bytes left reader next w first fs → AllTaken rank n bytes left w first fs
 walked_all rank n bytes left reader next w first fs is expect leaves k =
     let s = subst (λ (o : Option Call). Reached bytes left reader k.calls o) is k.reached in
@@ -198,25 +196,25 @@ walked_all rank n bytes left reader next w first fs is expect leaves k =
       gathers = k.gathers;
     }
 
-pub beside_all : (rank n : ℕ) (bytes : List ℕ) (left left' : Option (List ℕ)) (old new : ReaderState) (next : Option Call) (w : WalkState) (first fs : List Finding)
+pub beside_all : (rank n : ℕ) (bytes : List ℕ) (left left' : Option (List ℕ)) (old new : ReaderState) (next : Option Call) (w : WalkState) (first fs : Node)
     → next ≡ None → Given old new left left' (Ok next) → IsOpen old.phase → new.expect ≡ whose rank n → Leaves new.phase (Ok next) → Beside rank n bytes left old w first fs → AllTaken rank n bytes left' w first fs
 beside_all rank n bytes left left' old new next w first fs is given «open» expect leaves b =
     walked_all rank n bytes left' new next w first fs is expect leaves (record { calls = b.calls; reached = reached_more bytes left left' old new b.calls next given «open» b.stood; gathers = b.gathers })
 
--- the rows at the end
-pub taken_reads : (rank n : ℕ) (bytes : List ℕ) (left : Option (List ℕ)) (w : WalkState) (first fs new : List Finding)
-    → ((told : RankTold) (version : ℕ) (calls : List Call) (start : List Finding) → Gathers told w calls start fs → Adds start new (IsLocal (rank_by version told) calls))
+-- the end of a rank
+pub taken_reads : (rank n : ℕ) (bytes : List ℕ) (left : Option (List ℕ)) (w : WalkState) (first fs new : Node)
+    → ((told : RankTold) (version : ℕ) (calls : List Call) (start : Node) → Gathers told w calls start fs → GivesRank (rank_by version told) calls start new)
     → AllTaken rank n bytes left w first fs → ReadsRank rank n bytes first new × (left ≡ Some [])
 taken_reads rank n bytes left w first fs new ends a =
-    (record { calls = a.calls; accepted = a.accepted; adds = ends (told_by rank n bytes) (version_of bytes) a.calls first a.gathers }, a.left_is)
+    (record { calls = a.calls; accepted = a.accepted; gives = ends (told_by rank n bytes) (version_of bytes) a.calls first a.gathers }, a.left_is)
 
-pub left_walked : (rank n : ℕ) (bytes : List ℕ) (left : Option (List ℕ)) (reader : ReaderState) (next : Option Call) (w : WalkState) (first fs : List Finding) → Walked rank n bytes left reader next w first fs → IsLeftOf bytes left
+pub left_walked : (rank n : ℕ) (bytes : List ℕ) (left : Option (List ℕ)) (reader : ReaderState) (next : Option Call) (w : WalkState) (first fs : Node) → Walked rank n bytes left reader next w first fs → IsLeftOf bytes left
 left_walked rank n bytes left reader next w first fs k = left_reached bytes left reader k.calls next k.reached
 
-pub left_beside : (rank n : ℕ) (bytes : List ℕ) (left : Option (List ℕ)) (reader : ReaderState) (w : WalkState) (first fs : List Finding) → Beside rank n bytes left reader w first fs → IsLeftOf bytes left
+pub left_beside : (rank n : ℕ) (bytes : List ℕ) (left : Option (List ℕ)) (reader : ReaderState) (w : WalkState) (first fs : Node) → Beside rank n bytes left reader w first fs → IsLeftOf bytes left
 left_beside rank n bytes left reader w first fs b = left_stood bytes left reader b.calls b.stood
 
-pub left_next : (rank n : ℕ) (bytes : List ℕ) (left left' : Option (List ℕ)) (old new : ReaderState) (result : Result (Option Call) StreamFault) (w : WalkState) (first fs : List Finding)
+pub left_next : (rank n : ℕ) (bytes : List ℕ) (left left' : Option (List ℕ)) (old new : ReaderState) (result : Result (Option Call) StreamFault) (w : WalkState) (first fs : Node)
     → Given old new left left' result → IsOpen old.phase → Beside rank n bytes left old w first fs → IsLeftOf bytes left'
 left_next rank n bytes left left' old new result w first fs given «open» b = left_behind bytes left left' old new b.calls result b.stood given «open»
 
@@ -282,7 +280,7 @@ opened rank n Ended r taken rest bytes calls call expect «open» s parts = absu
 opened rank n (Failed f) r taken rest bytes calls call expect «open» s parts = absurd «open»
 
 -- a walk's limit, as it is told of the rank
-pub limit_told : (told : RankTold) (w : WalkState) (version : ℕ) (calls : List Call) (call : Call) (first fs : List Finding) (f : WalkFault) (k : ℕ) (l : Limit) → Gathers told w calls first fs
+pub limit_told : (told : RankTold) (w : WalkState) (version : ℕ) (calls : List Call) (call : Call) (first fs : Node) (f : WalkFault) (k : ℕ) (l : Limit) → Gathers told w calls first fs
     → ((v : ℕ) (cs : List Call) (given : List Batch) → Walks v w cs given → IsLimitAt (length cs) (limit_at (rank_by v w.rank) cs call) f) → f ≡ walk_fault.TooWide k l → limit_at (rank_by version told) calls call ≡ Some l
 limit_told told w version calls call first fs f k l g over is =
     let here : IsLimitAt (length calls) (limit_at (rank_by version w.rank) calls call) (walk_fault.TooWide k l) = subst (λ (x : WalkFault). IsLimitAt (length calls) (limit_at (rank_by version w.rank) calls call) x) is (over version calls g.given (g.walks version)) in

@@ -5,7 +5,7 @@ use Rattle.must_format.specs.Payload.{offset_behind}
 use Rattle.must_format.specs.Stream.{tag_ub_of}
 use Rattle.must_rules.specs.Streams.{Accepted}
 use Rattle.must_codec.specs.Reader.{ReaderState, StandsFor}
-use Rattle.must_find.specs.declared.finding.Finding.{Finding}
+use Rattle.must_node.specs.declared.node.Node.{Node}
 use Rattle.must_local.specs.Walks.{RankTold, WalkState}
 use Rattle.must_tree.specs.Ranks.{Gathers}
 
@@ -27,20 +27,20 @@ abbrev pub told_by : ℕ → ℕ → List ℕ → RankTold
 told_by rank n bytes = record { rank = rank; size = n; tag_ub = tag_ub_of bytes }
 
 -- the walk took the calls that the reader gave
-pub record Beside (rank n : ℕ) (bytes : List ℕ) (left : Option (List ℕ)) (reader : ReaderState) (w : WalkState) (first fs : List Finding) : Type 0 where
+pub record Beside (rank n : ℕ) (bytes : List ℕ) (left : Option (List ℕ)) (reader : ReaderState) (w : WalkState) (old new : Node) : Type 0 where
   pub calls : List Call
   pub stood : Stood bytes left reader calls
-  pub gathers : Gathers (told_by rank n bytes) w calls first fs
+  pub gathers : Gathers (told_by rank n bytes) w calls old new
 
 -- the walk took the calls that the reader gave before its last answer
-pub record Walked (rank n : ℕ) (bytes : List ℕ) (left : Option (List ℕ)) (reader : ReaderState) (next : Option Call) (w : WalkState) (first fs : List Finding) : Type 0 where
+pub record Walked (rank n : ℕ) (bytes : List ℕ) (left : Option (List ℕ)) (reader : ReaderState) (next : Option Call) (w : WalkState) (old new : Node) : Type 0 where
   pub calls : List Call
   pub reached : Reached bytes left reader calls next
-  pub gathers : Gathers (told_by rank n bytes) w calls first fs
+  pub gathers : Gathers (told_by rank n bytes) w calls old new
 
 -- the stream is accepted, and the walk took all its calls
-pub record AllTaken (rank n : ℕ) (bytes : List ℕ) (left : Option (List ℕ)) (w : WalkState) (first fs : List Finding) : Type 0 where
+pub record AllTaken (rank n : ℕ) (bytes : List ℕ) (left : Option (List ℕ)) (w : WalkState) (old new : Node) : Type 0 where
   pub calls : List Call
   pub accepted : Accepted rank n bytes calls
   pub left_is : left ≡ Some []
-  pub gathers : Gathers (told_by rank n bytes) w calls first fs
+  pub gathers : Gathers (told_by rank n bytes) w calls old new

@@ -7,7 +7,7 @@ use Rattle.must_format.specs.declared.fault.StreamFault.{StreamFault}
 use Rattle.must_format.specs.declared.fault.StreamFault.TheVariants as fault
 use Rattle.must_find.specs.declared.finding.Finding.{Finding}
 use Rattle.must_rules.specs.Run.{Run, Mode}
-use Rattle.must_rules.specs.RunRows.{IsRows}
+use Rattle.must_run.specs.RunRows.{AreRunRows}
 use Rattle.must_rules.specs.Streams.{Accepted, Refused, Records}
 use Rattle.must_tree.specs.declared.fault.RunFault.{RunFault}
 use Rattle.must_tree.specs.declared.fault.RunFault.TheVariants as run_fault
@@ -35,7 +35,7 @@ AreTold told streams = told ≡ map Some streams
 pub record RunRows (streams : List (List ℕ)) (rows : List Finding) : Type 0 where
   pub run : Run
   pub records : Records streams run
-  pub are_rows : (mode : Mode) → IsRows run mode rows
+  pub are_rows : (mode : Mode) → AreRunRows run mode rows
 
 -- Every stream was read to its end and is accepted, and these are the rows of the run.
 pub record ReadsRun (told : List (Option (List ℕ))) (parts : List SourceView) (rows : List Finding) : Type 0 where

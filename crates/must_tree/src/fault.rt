@@ -1,8 +1,10 @@
 //! Why a run has no findings.
 
 ghost use Rattle.std.specs.Prelude.{◌≡◌};
+ghost use Rattle.must_tree.specs.declared.fault.RunFault.TheVariants.{NoMemory as OutOfMemory};
 ghost use Rattle.must_tree.specs.Ranks.{fault_at};
 
+use must_base::NoMemory;
 use must_format::StreamFault;
 
 /// Why the streams of a run have no report: the lowest rank that stops it and why, or want of memory.
@@ -22,5 +24,13 @@ impl RunFault {
             StreamFault::NoMemory => RunFault::NoMemory,
             _ => RunFault::Stream { rank, fault },
         }
+    }
+}
+
+impl From<NoMemory> for RunFault {
+    ghost from_gives = { λ _ e. e ≡ OutOfMemory };
+
+    fn from(_: NoMemory) -> RunFault {
+        RunFault::NoMemory
     }
 }

@@ -5,13 +5,10 @@
 #![tactic(auto)]
 
 mod fault;
-mod plan;
 mod rank;
-mod rows;
 mod serial;
 #[cfg(test)]
 mod tests;
 
 pub use fault::RunFault;
-pub use plan::{Plan, Sends};
 pub use serial::analyse_serial;

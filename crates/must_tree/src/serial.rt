@@ -7,11 +7,13 @@ ghost use Rattle.must_tree.specs.Told.{AreTied};
 ghost use Rattle.must_tree.specs.Reading.{Analyses};
 
 use crate::fault::RunFault;
-use crate::plan::Plan;
 use crate::rank::read_rank;
 use must_base::Source;
+use must_entry::RankRange;
 use must_find::Findings;
 use must_format::Expect;
+use must_node::Node;
+use must_plan::Plan;
 use std::alloc::Global;
 
 /// Reads the streams of a run one after the other, rank 0 first, up to the first that stops the run, and gives its findings.
@@ -27,14 +29,15 @@ pub fn analyse_serial<S: Source>(
     ensures tied { AreTied (map S.left parts.old) (map S.shows parts.new) }
 {
     let size = parts.len() as u32;
-    let mut findings = Findings::new(alloc);
+    let mut node = Node::new(alloc, RankRange { from: 0, to: size }, true)?;
     for rank in 0..size {
         let expect = Expect { rank, size };
-        match read_rank(alloc, expect, &mut parts[rank as usize], &mut findings) {
+        match read_rank(alloc, expect, &mut parts[rank as usize], &mut node) {
             Ok(()) => {}
             Err(fault) => return Err(RunFault::at(rank, fault)),
         }
     }
-    let _ = findings.as_slice();
-    Ok(findings)
+    let closed = node.close()?;
+    let _ = closed.findings.as_slice();
+    Ok(closed.findings)
 }

@@ -2,11 +2,12 @@
 
 ghost use Rattle.std.specs.Prelude.{◌≡◌, IfOk};
 
-use crate::{Plan, RunFault, Sends, analyse_serial};
+use crate::{RunFault, analyse_serial};
 use must_base::MemSource;
 use must_call::Place;
 use must_find::{Finding, Rule, RuleSet};
 use must_format::{Cause, StreamFault};
+use must_plan::{Plan, Sends};
 use std::alloc::Global;
 use std::test::Fail;
 

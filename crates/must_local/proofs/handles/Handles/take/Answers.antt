@@ -5,7 +5,7 @@ use Rattle.must_handle.specs.declared.slot.Slot.{Slot}
 use Rattle.must_handle.specs.Slots.{Stands}
 use Rattle.must_rules.specs.Rank.{Rank}
 use Rattle.must_rules.specs.Known.{clear_behind}
-use Rattle.must_rules.specs.Limits.{path_limit, most_weight, type_limit_at, or_limit, limit_at}
+use Rattle.must_rules.specs.Limits.{path_limit, most_weight, type_limit_at, or_limit, handle_limit_at}
 use Rattle.must_derived.specs.declared.datatypes.Datatypes.{Datatypes}
 use Rattle.must_derived.specs.Numbers.{IsNext}
 use Rattle.must_derived.specs.Standing as derived
@@ -52,7 +52,7 @@ returns-in_err-take_in-clause-over c =
     let p = err_from_is_err_and c.from_residual.result c.from_residual.ensures.1 in
     let f = c.in_err-take_in.field-0.0 in
     let call = c.args.call.now in
-    handed_on c.from_residual.result p.0 f (λ fault. (r : Rank) (calls : List Call) → HandlesStand r c.args.self.now calls → IsLimitAt c.args.k (limit_at r calls call) fault) p.1 p.2
+    handed_on c.from_residual.result p.0 f (λ fault. (r : Rank) (calls : List Call) → HandlesStand r c.args.self.now calls → IsLimitAt c.args.k (handle_limit_at r calls call) fault) p.1 p.2
     (λ r calls s. path_over r calls call c.args.k f (subst (λ b. IsLimitAt c.args.k (path_limit b) f) (deep_is r c.args.self.now calls call s) c.in_err-take_in.ensures.over))
 
 pub returns-in_err-take_type-clause-over : goal.returns-in_err-take_type-clause-over
@@ -61,5 +61,5 @@ returns-in_err-take_type-clause-over c =
     let f = c.in_err-take_type.field-0.0 in
     let call = c.args.call.now in
     let same : c.take_in.new.self.types ≡ c.args.self.now.types = c.in_ok-take_in.ensures.lives.1 in
-    handed_on c.from_residual-in_err-take_type.result p.0 f (λ fault. (r : Rank) (calls : List Call) → HandlesStand r c.args.self.now calls → IsLimitAt c.args.k (limit_at r calls call) fault) p.1 p.2
+    handed_on c.from_residual-in_err-take_type.result p.0 f (λ fault. (r : Rank) (calls : List Call) → HandlesStand r c.args.self.now calls → IsLimitAt c.args.k (handle_limit_at r calls call) fault) p.1 p.2
     (λ r calls s. type_over r calls call c.args.k f (subst (λ (n : ℕ). IsLimitAt c.args.k (type_limit_at n (clear_behind r) calls call) f) (ap (λ (t : Datatypes). t.table.weight_limit) same ∙ s.weight_is) (c.in_err-take_type.ensures.over (clear_behind r) calls (c.requires.clear ∙ clear_is r c.args.self.now calls call s) (subst (λ (t : Datatypes). derived.Stands (clear_behind r) t calls) (sym same) s.types))))
