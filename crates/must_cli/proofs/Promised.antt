@@ -1,5 +1,5 @@
 -- The promises of the program, from what its commands answer.
-use Rattle.std.proofs.Common.{◌≡◌, ℕ, List, [], ◌∷◌, length, take, map, Option, Some, None, sym, subst, ◌∙◌}
+use Rattle.std.proofs.Common.{◌≡◌, ℕ, List, [], ◌∷◌, length, take, map, Option, Some, None, is_some, inl, refl, sym, subst, true, true≢false, ◌∙◌}
 use Rattle.std.specs.Prelude.{◌≢◌}
 use Rattle.must_base.specs.Views.{SourceView}
 use Rattle.must_tree.specs.Told.{AreTied}
@@ -91,3 +91,18 @@ promises_of_dump words file told before after answer is a memory not names tied 
       check = λ check e. absurd (no_dump check file (sym e ∙ is));
       dump = λ other e. subst (λ (f : List ℕ). DumpedFile told before after answer f) (same_file file other (sym is ∙ e)) here;
     }
+
+-- ---- want of memory before a command began
+
+no_usage : status.NoMemory ≢ status.Usage
+no_usage e = cc
+
+pub promises_of_memory : (words : List (List ℕ)) (told : Told) (before after : World) → is_some (command words) ≡ true
+    → WantOfMemory (out_of before after) (err_of before after) → Promises words told before after status.NoMemory
+promises_of_memory words told before after some want = go (command words) refl some
+  where
+    go : (c : Option Command) → command words ≡ c → is_some c ≡ true → Promises words told before after status.NoMemory
+    go None is e = absurd (true≢false (sym e))
+    go (Some (Checks check)) is e = promises_of_check words check told before after status.NoMemory is (inl want) (λ enough. absurd (enough refl)) (λ enough. absurd (enough refl))
+    go (Some (Dumps file)) is e = promises_of_dump words file told before after status.NoMemory is (λ enough. absurd (enough refl)) (λ _. want) no_usage
+        (λ enough. absurd (enough refl)) (λ enough. absurd (enough refl))

@@ -30,25 +30,21 @@ pub fn bind_files<T: Trace>(
     Ok(())
 }
 
-fn push_name(alloc: Global, names: &mut Vec<NameText>, name: &NameText) -> Result<(), NoMemory>
+fn push_name(alloc: Global, names: &mut Vec<NameText>, name: &str) -> Result<(), NoMemory>
     ensures { OnOk result (names.new.items ≡ names.old.items ++ name.now ∷ []) }
 {
-    let copy = NameText::new(alloc, name.text())?;
+    let copy = NameText::new(alloc, name)?;
     names.push(copy)?;
     Ok(())
 }
 
 /// The names of the files, and behind them that of the rules file.
-fn with_rules(
-    alloc: Global,
-    files: &[NameText],
-    rules: &NameText,
-) -> Result<Vec<NameText>, NoMemory>
+fn with_rules(alloc: Global, files: &[NameText], rules: &str) -> Result<Vec<NameText>, NoMemory>
     ensures { IfOk result (λ names. names.items ≡ files.now ++ rules.now ∷ []) }
 {
     let mut names = Vec::new(alloc);
     for file in files {
-        push_name(alloc, &mut names, file)?;
+        push_name(alloc, &mut names, file.text())?;
     }
     push_name(alloc, &mut names, rules)?;
     Ok(names)

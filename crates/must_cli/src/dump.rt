@@ -29,7 +29,7 @@ fn dump_part<S: Source, O: Sink>(alloc: Global, part: &mut S, out: &mut O) -> Re
 /// Binds the file, and puts the text of its stream.
 fn dump_file<T: Trace, O: Sink>(
     alloc: Global,
-    file: &NameText,
+    file: &str,
     trace: &mut T,
     out: &mut O,
 ) -> Result<(), DumpFault>
@@ -38,7 +38,10 @@ fn dump_file<T: Trace, O: Sink>(
     ensures names { result ≢ Err OutOfMemory → T.names trace.new ≡ file.now ∷ [] }
     ensures nothing { result ≡ Err OutOfMemory → O.shows out.new ≡ O.shows out.old }
 {
-    if bind_files(alloc, slice::from_ref(file), trace).is_err() {
+    let Ok(name) = NameText::new(alloc, file) else {
+        return Err(DumpFault::NoMemory);
+    };
+    if bind_files(alloc, slice::from_ref(&name), trace).is_err() {
         return Err(DumpFault::NoMemory);
     }
     let parts = trace.parts();
@@ -48,7 +51,7 @@ fn dump_file<T: Trace, O: Sink>(
 /// Puts the text of the stream in this file.
 pub fn dump<T: Trace, O: Sink, E: Sink>(
     alloc: Global,
-    file: &NameText,
+    file: &str,
     trace: &mut T,
     out: &mut O,
     err: &mut E,

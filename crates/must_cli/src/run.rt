@@ -5,9 +5,9 @@ ghost use Rattle.must_cli.specs.Promises.{Promises, world};
 
 use crate::check::check;
 use crate::dump::dump;
-use crate::line::put_usage;
+use crate::line::{put_memory, put_usage};
 use crate::status::Status;
-use must_base::{Gate, NameText, Sink, Trace};
+use must_base::{Gate, NameText, NoMemory, Sink, Trace};
 use must_words::{CommandWords, command_words};
 use std::alloc::Global;
 
@@ -26,12 +26,16 @@ pub fn serial_command<T: Trace, O: Sink, E: Sink>(
         (world (T.names trace.new) (map T.Src.shows (T.bound trace.new)) (O.shows out.new) (E.shows err.new))
         result }
 {
-    match command_words(words) {
-        Some(CommandWords::Check(words)) => check(alloc, &words, trace, out, err),
-        Some(CommandWords::Dump(file)) => dump(alloc, file, trace, out, err),
-        None => {
+    match command_words(alloc, words) {
+        Ok(Some(CommandWords::Check(words))) => check(alloc, &words, trace, out, err),
+        Ok(Some(CommandWords::Dump(file))) => dump(alloc, file, trace, out, err),
+        Ok(None) => {
             put_usage(err);
             Status::Usage
+        }
+        Err(NoMemory) => {
+            put_memory(err);
+            Status::NoMemory
         }
     }
 }

@@ -1,10 +1,12 @@
 //! The words of the command line, and what they ask for (README.md, "Commands").
 //!
-//! Each word is looked at a few times, and no memory is taken.
+//! The words behind the first are read by `clap`, once it is known that they are canonical: `clap` takes others besides.
 #![tactic(auto)]
 
 mod command;
+mod matches;
 mod options;
+mod readers;
 #[cfg(test)]
 mod tests;
 mod values;

@@ -78,7 +78,7 @@ fn with_rules<'a>(options: OptionWords<'a>, value: &'a NameText) -> Option<Optio
 {
     let mut more = options;
     if is_file_word(value) {
-        more.rules = Some(value);
+        more.rules = Some(value.text());
         Some(more)
     } else {
         None

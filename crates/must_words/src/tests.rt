@@ -22,7 +22,7 @@ fn words_of(alloc: Global, text: &str) -> Result<Vec<NameText>, Fail> {
 fn refuses(rt: &impl Abort, alloc: Global, lines: &[&str]) -> Result<(), Fail> {
     for line in lines {
         let words = words_of(alloc, line)?;
-        assert!(rt; command_words(&words).is_none(), "{line}");
+        assert!(rt; command_words(alloc, &words)?.is_none(), "{line}");
     }
     Ok(())
 }
@@ -30,7 +30,7 @@ fn refuses(rt: &impl Abort, alloc: Global, lines: &[&str]) -> Result<(), Fail> {
 fn accepts(rt: &impl Abort, alloc: Global, lines: &[&str]) -> Result<(), Fail> {
     for line in lines {
         let words = words_of(alloc, line)?;
-        assert!(rt; command_words(&words).is_some(), "{line}");
+        assert!(rt; command_words(alloc, &words)?.is_some(), "{line}");
     }
     Ok(())
 }
@@ -137,19 +137,19 @@ fn refused_words(rt: HostRuntime) -> Result<(), Fail> {
 fn what_is_asked(rt: HostRuntime) -> Result<(), Fail> {
     let alloc = rt.alloc();
     let words = words_of(alloc, "check --csv --fan-in 12 --rules r a b")?;
-    match command_words(&words) {
+    match command_words(alloc, &words)? {
         Some(CommandWords::Check(check)) => {
             assert!(rt; check.options.csv && !check.options.serial);
             assert_eq!(rt; check.options.fan_in, Some(12));
             assert_eq!(rt; check.options.sends, None);
-            assert_eq!(rt; check.options.rules.map(|file| file.text()), Some("r"));
+            assert_eq!(rt; check.options.rules, Some("r"));
             assert_eq!(rt; check.files.len(), 2);
         }
         _ => assert!(rt; false),
     }
     let words = words_of(alloc, "dump a")?;
-    match command_words(&words) {
-        Some(CommandWords::Dump(file)) => assert_eq!(rt; file.text(), "a"),
+    match command_words(alloc, &words)? {
+        Some(CommandWords::Dump(file)) => assert_eq!(rt; file, "a"),
         _ => assert!(rt; false),
     }
     Ok(())
@@ -162,8 +162,8 @@ fn most_files(rt: HostRuntime) -> Result<(), Fail> {
     for _ in 0..1024u32 {
         words.push(NameText::new(alloc, "a")?)?;
     }
-    assert!(rt; command_words(&words).is_some());
+    assert!(rt; command_words(alloc, &words)?.is_some());
     words.push(NameText::new(alloc, "a")?)?;
-    assert!(rt; command_words(&words).is_none());
+    assert!(rt; command_words(alloc, &words)?.is_none());
     Ok(())
 }

@@ -10,8 +10,8 @@ pub struct OptionWords<'a> {
     pub fan_in: Option<u8>,
     /// How standard sends are taken.
     pub sends: Option<Sends>,
-    /// The rules file.
-    pub rules: Option<&'a NameText>,
+    /// The name of the rules file.
+    pub rules: Option<&'a str>,
     /// The report is written as CSV.
     pub csv: bool,
     /// The analysis takes one thread.
@@ -31,6 +31,6 @@ pub struct CheckWords<'a> {
 pub enum CommandWords<'a> {
     /// A check of a run.
     Check(CheckWords<'a>),
-    /// The text of the stream in this file.
-    Dump(&'a NameText),
+    /// The text of the stream in the file of this name.
+    Dump(&'a str),
 }
