@@ -8,6 +8,7 @@ use Rattle.std.proofs.lemmas.List.Concat.{flat_map-append}
 use Rattle.std.proofs.lemmas.List.Elements.{filter-append}
 use Rattle.std.specs.Ordering.{is_eq}
 use Rattle.must_base.specs.Listing.{Has}
+use Rattle.must_base.specs.ListingLaws.{all_has}
 use Rattle.must_call.specs.declared.place.Place.{Place}
 use Rattle.must_call.specs.declared.call.Call.{Call}
 use Rattle.must_find.specs.declared.finding.Finding.{Finding}
@@ -83,17 +84,12 @@ of_batches rank (b ∷ bs) rows waves silent ranks = (
   of_batches rank bs (λ f h. rows f (has_behind (rows_of b.entries) (all_rows bs) f h)) (λ x h. waves x (has_behind (calls b.entries) (collectives bs) x h)) silent.1 ranks.1,
 )
 
-all_hold : {X : Type 0} (P : X → Type 0) (xs : List X) (x : X) → AllByRecursion P xs → Has xs x → P x
-all_hold P [] x all has = absurd has
-all_hold P (y ∷ ys) x all (inl e) = subst P (sym e) all.0
-all_hold P (y ∷ ys) x all (inr has) = all_hold P ys x all.1 has
-
 one_rank : (r : Rank) (cs : List Call) (given : List Batch) → ((f : Finding) → Has (all_rows given) f → f.rank ≡ r.rank) → AreItemsOf r cs (collectives given) → AreNumbered 64 cs → AllByRecursion IsSilent given
     → AllByRecursion (λ (b : Batch). b.rank ≡ r.rank) given → NoneAfterLast given → IsOneRank r given
 one_rank r cs given rows waves numbered silent ranks lasts =
     let ordered = items_ordered r cs (collectives given) numbered waves in
     record {
-      of_rank = of_batches r.rank given rows (λ x h. all_hold (λ (y : WaveItem). (y.place.rank ≡ r.rank) × Has y.name.members r.rank) (collectives given) x ordered.of_rank h) silent ranks;
+      of_rank = of_batches r.rank given rows (λ x h. all_has (λ (y : WaveItem). (y.place.rank ≡ r.rank) × Has y.name.members r.rank) (collectives given) x ordered.of_rank h) silent ranks;
       lasts = lasts;
       ordered = ordered;
       rise = items_rise r cs (collectives given) waves;
@@ -155,10 +151,10 @@ orderly_join r xs ys old lower new = record {
   named = λ x y hx hy same comm. elim (has_append xs ys x hx) [
     | inl ax ↦ elim (has_append xs ys y hy) [
       | inl ay ↦ old.named x y ax ay same comm
-      | inr by ↦ absurd (let less = all_hold (λ (z : WaveItem). z.place.rank < r.rank) xs x lower ax in let is = (all_hold (IsOfRank r) ys y new.of_rank by).0 in omega (arith, less, is, same))
+      | inr by ↦ absurd (let less = all_has (λ (z : WaveItem). z.place.rank < r.rank) xs x lower ax in let is = (all_has (IsOfRank r) ys y new.of_rank by).0 in omega (arith, less, is, same))
     ]
     | inr bx ↦ elim (has_append xs ys y hy) [
-      | inl ay ↦ absurd (let less = all_hold (λ (z : WaveItem). z.place.rank < r.rank) xs y lower ay in let is = (all_hold (IsOfRank r) ys x new.of_rank bx).0 in omega (arith, less, is, same))
+      | inl ay ↦ absurd (let less = all_has (λ (z : WaveItem). z.place.rank < r.rank) xs y lower ay in let is = (all_has (IsOfRank r) ys x new.of_rank bx).0 in omega (arith, less, is, same))
       | inr by ↦ new.named x y bx by comm
     ]
   ];
