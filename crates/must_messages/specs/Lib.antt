@@ -4,6 +4,7 @@ pub mod Fates
 pub mod Statuses
 pub mod MessageItems
 pub mod CallNeeds
+pub mod Asking
 pub mod Holding
 pub mod PlainLaws
 pub mod TurnLaws

@@ -4,9 +4,13 @@
 //! The code of this crate is laws about the definitions in specs/; it has no state and takes no memory.
 #![tactic(auto)]
 
+mod asked;
 mod laws;
+mod status;
 
+pub use asked::{Asked, Begun, Deed, Mode};
 pub use laws::{
     fates_go_on, messages_in_order, messages_settle, needs_settle, open_wildcards_have_rows,
     requests_are_active, statuses_are_judged,
 };
+pub use status::contradiction;
