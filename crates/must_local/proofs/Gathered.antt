@@ -1,7 +1,7 @@
 -- Rows in entries, and what several adders add.
-use Rattle.std.proofs.Common.{◌≡◌, ℕ, zero, suc, ◌+◌, ◌<◌, ◌≤◌, List, [], ◌∷◌, ◌++◌, length, take, get_or, Option, Some, None, refl, sym, ap, subst, ◌∙◌, inl, inr, arith, append_assoc}
+use Rattle.std.proofs.Common.{◌≡◌, ℕ, zero, suc, ◌+◌, ◌<◌, ◌≤◌, List, [], ◌∷◌, ◌++◌, length, take, map, get_or, Option, Some, None, refl, sym, ap, ap₂, subst, ◌∙◌, inl, inr, arith, append_assoc}
 use Rattle.std.specs.Prelude.{◌⊎◌, slice_get}
-use Rattle.std.proofs.lemmas.List.{take_more}
+use Rattle.std.proofs.lemmas.List.{take_more, append-nil, map-append}
 use Rattle.std.proofs.lemmas.List.Concat.{flat_map-append}
 use Rattle.std.specs.Option.{option_to_list}
 use Rattle.std.proofs.lemmas.Bool.{cases_eq}
@@ -19,29 +19,62 @@ use Rattle.must_rules.specs.LiveLaws.{live_more, live_count, live_now}
 use Rattle.must_rules.specs.Leaks.{leak}
 use Rattle.must_local.specs.Adding.{IsOfRule, ClassRows, open_one}
 use Rattle.must_entry.specs.declared.entry.Entry.{Entry}
-use Rattle.must_entry.specs.declared.entry.Entry.TheVariants.{Row}
+use Rattle.must_entry.specs.declared.entry.Entry.TheVariants.{Row, Wave}
 use Rattle.must_coll.specs.declared.item.WaveItem.{WaveItem}
 use Rattle.must_p2p.specs.declared.item.MsgItem.{MsgItem}
-use Rattle.must_entry.specs.Entries.{Waits, rows_of, message_of, messages, call_of, calls, need_of, needs}
-use Rattle.must_entry.specs.EntryLaws.{rows_append}
+use Rattle.must_entry.specs.Entries.{Waits, row_of, rows_of, message_of, messages, call_of, calls, need_of, needs}
 
-pub rows_next : (xs : List Entry) (fs : List Finding) (i : ℕ) (d : Finding) → i < length fs → rows_of xs ≡ take i fs → rows_of (xs ++ Row (get_or fs i d) ∷ []) ≡ take (i + 1) fs
-rows_next xs fs i d within e = rows_append xs (Row (get_or fs i d) ∷ []) ∙ ap (λ (gs : List Finding). gs ++ get_or fs i d ∷ []) e ∙ sym (take_more fs i d within)
+-- ---- rows and calls of waves behind other entries
 
-calls_append : (xs ys : List Entry) → calls (xs ++ ys) ≡ calls xs ++ calls ys
-calls_append [] ys = refl
-calls_append (x ∷ xs) ys = ap (λ (items : List WaveItem). call_of x ++ items) (calls_append xs ys) ∙ sym (append_assoc (call_of x) (calls xs) (calls ys))
+-- entries that have these rows, calls, messages and needs
+pub record HasParts (es : List Entry) (rows : List Finding) (items : List WaveItem) (ms : List MsgItem) (ws : List Waits) : Type 0 where
+  pub rows_are : rows_of es ≡ rows
+  pub calls_are : calls es ≡ items
+  pub messages_are : messages es ≡ ms
+  pub needs_are : needs es ≡ ws
 
--- a row is no collective call
-pub calls_next : (xs : List Entry) (f : Finding) → calls xs ≡ [] → calls (xs ++ Row f ∷ []) ≡ []
-calls_next xs f e = calls_append xs (Row f ∷ []) ∙ ap (λ (items : List WaveItem). items ++ []) e
+joined : (xs ys : List Entry) (f g : List Finding) (a b : List WaveItem) (m n : List MsgItem) (v w : List Waits) → HasParts xs f a m v → HasParts ys g b n w → HasParts (xs ++ ys) (f ++ g) (a ++ b) (m ++ n) (v ++ w)
+joined xs ys f g a b m n v w p q = record {
+  rows_are = flat_map-append row_of xs ys ∙ ap₂ (λ (k l : List Finding). k ++ l) p.rows_are q.rows_are;
+  calls_are = flat_map-append call_of xs ys ∙ ap₂ (λ (k l : List WaveItem). k ++ l) p.calls_are q.calls_are;
+  messages_are = flat_map-append message_of xs ys ∙ ap₂ (λ (k l : List MsgItem). k ++ l) p.messages_are q.messages_are;
+  needs_are = flat_map-append need_of xs ys ∙ ap₂ (λ (k l : List Waits). k ++ l) p.needs_are q.needs_are;
+}
 
--- nor a message or a need
-pub messages_next : (xs : List Entry) (f : Finding) → messages xs ≡ [] → messages (xs ++ Row f ∷ []) ≡ []
-messages_next xs f e = flat_map-append message_of xs (Row f ∷ []) ∙ ap (λ (items : List MsgItem). items ++ []) e
+rows_alone : (fs : List Finding) → HasParts (map Row fs) fs [] [] []
+rows_alone [] = record { rows_are = refl; calls_are = refl; messages_are = refl; needs_are = refl }
+rows_alone (f ∷ fs) = let rest = rows_alone fs in record { rows_are = ap (λ (l : List Finding). f ∷ l) rest.rows_are; calls_are = rest.calls_are; messages_are = rest.messages_are; needs_are = rest.needs_are }
 
-pub needs_next : (xs : List Entry) (f : Finding) → needs xs ≡ [] → needs (xs ++ Row f ∷ []) ≡ []
-needs_next xs f e = flat_map-append need_of xs (Row f ∷ []) ∙ ap (λ (items : List Waits). items ++ []) e
+waves_alone : (items : List WaveItem) → HasParts (map Wave items) [] items [] []
+waves_alone [] = record { rows_are = refl; calls_are = refl; messages_are = refl; needs_are = refl }
+waves_alone (x ∷ xs) = let rest = waves_alone xs in record { rows_are = rest.rows_are; calls_are = ap (λ (l : List WaveItem). x ∷ l) rest.calls_are; messages_are = rest.messages_are; needs_are = rest.needs_are }
+
+-- messages and needs, behind them rows, and behind these calls of waves
+pub behind_others : (more : List Entry) (rows : List Finding) (items : List WaveItem) → rows_of more ≡ [] → calls more ≡ [] → HasParts ((more ++ map Row rows) ++ map Wave items) rows items (messages more) (needs more)
+behind_others more rows items no_rows no_calls =
+    let first : HasParts more [] [] (messages more) (needs more) = record { rows_are = no_rows; calls_are = no_calls; messages_are = refl; needs_are = refl } in
+    let with_rows = joined more (map Row rows) [] rows [] [] (messages more) [] (needs more) [] first (rows_alone rows) in
+    let all = joined (more ++ map Row rows) (map Wave items) rows [] [] items (messages more ++ []) [] (needs more ++ []) [] with_rows (waves_alone items) in
+    record {
+      rows_are = all.rows_are ∙ append-nil rows;
+      calls_are = all.calls_are;
+      messages_are = all.messages_are ∙ append-nil (messages more ++ []) ∙ append-nil (messages more);
+      needs_are = all.needs_are ∙ append-nil (needs more ++ []) ∙ append-nil (needs more);
+    }
+
+-- one row more
+pub row_next : (old : List Entry) (fs : List Finding) (i : ℕ) (d : Finding) → i < length fs → (old ++ map Row (take i fs)) ++ Row (get_or fs i d) ∷ [] ≡ old ++ map Row (take (i + 1) fs)
+row_next old fs i d within =
+    append_assoc old (map Row (take i fs)) (Row (get_or fs i d) ∷ [])
+    ∙ ap (λ (l : List Entry). old ++ l) (sym (ap (map Row) (take_more fs i d within) ∙ map-append Row (take i fs) (get_or fs i d ∷ [])))
+
+pub row_behind : (old mid new : List Entry) (fs : List Finding) (i : ℕ) (d : Finding) → i < length fs → new ≡ mid ++ Row (get_or fs i d) ∷ [] → mid ≡ old ++ map Row (take i fs) → new ≡ old ++ map Row (take (i + 1) fs)
+row_behind old mid new fs i d within put so_far = put ∙ ap (λ (l : List Entry). l ++ Row (get_or fs i d) ∷ []) so_far ∙ row_next old fs i d within
+
+-- what was put behind nothing
+pub put_behind : (old more new : List Entry) (fs rows : List Finding) (items : List WaveItem) → old ≡ [] → new ≡ old ++ more → fs ≡ rows → (new ++ map Row fs) ++ map Wave items ≡ (more ++ map Row rows) ++ map Wave items
+put_behind old more new fs rows items none put same =
+    ap₂ (λ (l : List Entry) (gs : List Finding). (l ++ map Row gs) ++ map Wave items) (put ∙ ap (λ (l : List Entry). l ++ more) none) same
 
 -- ---- adding
 

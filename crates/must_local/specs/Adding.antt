@@ -1,19 +1,21 @@
 -- What the families of rules add at a call, by what the walk keeps.
-use Rattle.std.specs.Prelude.{◌≡◌, ◌⊎◌, ◌↔◌, ℕ, Bool, true, false, List, length, Option, Some, None, slice_get}
+use Rattle.std.specs.Prelude.{◌≡◌, ◌⊎◌, ◌↔◌, ℕ, ℤ, option_map, Bool, true, false, List, length, Option, Some, None, slice_get}
 use Rattle.must_call.specs.declared.class.Class.{Class}
 use Rattle.must_call.specs.declared.class.Class.TheVariants.{Comm, Group, Datatype, Operation, Request}
 use Rattle.must_call.specs.declared.life.Life.{Life}
 use Rattle.must_call.specs.declared.life.Life.TheVariants.{Live}
 use Rattle.must_call.specs.declared.call.Call.{Call}
 use Rattle.must_find.specs.declared.rule.Rule.{Rule}
-use Rattle.must_find.specs.declared.rule.Rule.TheVariants.{I1, I2, C6, L1, L2, L3, L4, L5}
+use Rattle.must_find.specs.declared.rule.Rule.TheVariants.{I1, I2, S1, C6, L1, L2, L3, L4, L5}
 use Rattle.must_find.specs.declared.finding.Finding.{Finding}
 use Rattle.must_base.specs.Listing.{Has, Rises}
 use Rattle.must_find.specs.Order.{by_all}
 use Rattle.must_rules.specs.Rank.{Rank}
 use Rattle.must_rules.specs.Local.{IsBehind, IsWhole, breaches_at, operation_untaken}
-use Rattle.must_rules.specs.Answer.{Answer, at_part}
+use Rattle.must_rules.specs.Answer.{Answer, alone, at_part}
+use Rattle.must_rules.specs.Statuses.{status_contradicts}
 use Rattle.must_rules.specs.Breaches.{IsBreach}
+use Rattle.must_parts.specs.Rows.{BufferRows}
 use Rattle.must_rules.specs.WrongLaws.{place_behind}
 use Rattle.must_rules.specs.Frames.{is_init, first_init, first_finalize, init_answer, seeing}
 use Rattle.must_rules.specs.Lives.{open_handles}
@@ -25,6 +27,14 @@ pub record IsOfRule (rank call : ℕ) (rule : Rule) (answers : ℕ → Option An
   pub call_is : f.call ≡ call
   pub rule_is : f.rule ≡ rule
   pub gives : answers f.part ≡ Some (f.see, f.value)
+
+-- what contradicts a call's own status sees no other call
+abbrev pub own_answer : Option ℤ → Option Answer
+own_answer value = option_map alone value
+
+-- S1
+abbrev pub StatusRows : Rank → List Call → Call → Finding → Type 0
+StatusRows r calls call f = IsOfRule r.rank (length calls) S1 (status_contradicts r calls call) f
 
 -- I1 and I2, by the first Init and the first Finalize
 abbrev pub FrameRows : ℕ → ℕ → Option ℕ → Option ℕ → Call → Finding → Type 0
@@ -55,7 +65,11 @@ abbrev pub LeakRowsAt : ℕ → ℕ → Bool → List Call → Finding → Type 
 LeakRowsAt rank k true calls f = LeakRows rank k calls f
 LeakRowsAt rank k false calls f = ⊥
 
--- those of all rules but those of buffers
+-- those that are added as a call is taken: of its statuses and of its buffers
+abbrev pub LateRows : Rank → List Call → Call → Finding → Type 0
+LateRows r calls call f = StatusRows r calls call f ⊎ BufferRows (place_behind r calls) r calls call f
+
+-- those of all other rules
 abbrev pub RowsBeside : Rank → List Call → Call → Finding → Type 0
 RowsBeside r calls call f =
     FrameRows r.rank (length calls) (first_init calls) (first_finalize calls) call f

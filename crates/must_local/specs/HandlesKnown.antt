@@ -19,6 +19,7 @@ use Rattle.must_rules.specs.Known.{group_made, clear_behind}
 use Rattle.must_handle.specs.Slots.{Stands, state_in, committed_in}
 use Rattle.must_derived.specs.Standing as derived
 use Rattle.must_items.specs.CollectiveItems.{commute_made}
+use Rattle.must_begin.specs.declared.named.Named.{Named}
 use Rattle.must_local.specs.Counted.{Counted, counted, name_counted}
 use Rattle.must_local.specs.Objects.{slot_of, comm_in, group_in, Remembers}
 use Rattle.must_local.specs.Bumps.{bumped}
@@ -29,6 +30,16 @@ use Rattle.must_local.specs.declared.handles.Handles.{Handles}
 -- a sound communicator that may be used
 abbrev pub usable_comm : Handles → ℕ → Option Counted
 usable_comm h comm = there (state_in h.lives class.Comm comm) (comm_in h.objects comm)
+
+-- a communicator with its name
+abbrev pub name_told : Option Named → Option (ℕ × Name)
+name_told None = None
+name_told (Some on) = Some (on.comm, on.name.now)
+
+-- the same, by what is known of it
+abbrev pub named_as : ℕ → Option Counted → Option (ℕ × Name)
+named_as comm None = None
+named_as comm (Some c) = Some (comm, c.name)
 
 -- what a rank knows by its tables
 abbrev pub facts_in : Handles → Facts

@@ -6,5 +6,6 @@ pub mod Objects
 pub mod Bumps
 pub mod HandlesKnown
 pub mod Seen
+pub mod TrafficStands
 pub mod Codes
 pub mod Walks

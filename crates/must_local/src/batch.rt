@@ -1,53 +1,45 @@
-//! The entries of a call.
+//! The entries of a batch.
 
-ghost use Rattle.std.specs.Prelude.{◌≡◌, [], IfOk};
+ghost use Rattle.std.specs.Prelude.{◌≡◌, ◌++◌, map, OnOk, IfOk};
 ghost use Rattle.std.specs.Option.{option_to_list};
-ghost use Rattle.must_entry.specs.Entries.{rows_of, calls, messages, needs};
+ghost use Rattle.must_entry.specs.declared.entry.Entry.TheVariants.{Row, Wave};
 
 use must_base::NoMemory;
 use must_coll::WaveItem;
 use must_entry::{Entry, ItemList};
 use must_find::Finding;
-use std::alloc::Global;
 
-fn row_items(alloc: Global, rows: &[Finding]) -> Result<Vec<Entry>, NoMemory>
-    ensures rows { IfOk result (λ entries. rows_of entries.items ≡ rows.now) }
-    ensures calls { IfOk result (λ entries. calls entries.items ≡ []) }
-    ensures messages { IfOk result (λ entries. messages entries.items ≡ []) }
-    ensures needs { IfOk result (λ entries. needs entries.items ≡ []) }
+/// Puts rows behind other entries.
+fn push_rows(entries: &mut Vec<Entry>, rows: &[Finding]) -> Result<(), NoMemory>
+    ensures { OnOk result (entries.new.items ≡ entries.old.items ++ map Row rows.now) }
 {
-    let mut items = Vec::new(alloc);
     for row in rows {
-        items.push(Entry::Row { finding: *row })?;
+        entries.push(Entry::Row { finding: *row })?;
     }
-    Ok(items)
+    Ok(())
 }
 
-/// The entries of some rows.
-pub fn row_entries(alloc: Global, rows: &[Finding]) -> Result<ItemList, NoMemory>
-    ensures rows { IfOk result (λ entries. rows_of entries ≡ rows.now) }
-    ensures calls { IfOk result (λ entries. calls entries ≡ []) }
-    ensures messages { IfOk result (λ entries. messages entries ≡ []) }
-    ensures needs { IfOk result (λ entries. needs entries ≡ []) }
+/// Some entries, and rows behind them.
+pub fn with_rows(entries: Vec<Entry>, rows: &[Finding]) -> Result<ItemList, NoMemory>
+    ensures { IfOk result (λ list. list ≡ entries.items ++ map Row rows.now) }
 {
-    Ok(ItemList::from_vec(row_items(alloc, rows)?))
+    let mut entries = entries;
+    push_rows(&mut entries, rows)?;
+    Ok(ItemList::from_vec(entries))
 }
 
-/// The entries of a call: its rows, and what it gives to a wave.
-pub fn call_entries(
-    alloc: Global,
+/// Some entries, and behind them rows, and what a call gives to a wave.
+pub fn with_rows_and_wave(
+    entries: Vec<Entry>,
     rows: &[Finding],
     wave: Option<WaveItem>,
 ) -> Result<ItemList, NoMemory>
-    ensures rows { IfOk result (λ entries. rows_of entries ≡ rows.now) }
-    ensures calls { IfOk result (λ entries. calls entries ≡ option_to_list wave) }
-    ensures messages { IfOk result (λ entries. messages entries ≡ []) }
-    ensures needs { IfOk result (λ entries. needs entries ≡ []) }
+    ensures { IfOk result (λ list. list ≡ (entries.items ++ map Row rows.now) ++ map Wave (option_to_list wave)) }
 {
-    let mut items = row_items(alloc, rows)?;
-    match wave {
-        None => {}
-        Some(item) => items.push(Entry::Wave { item })?,
+    let mut entries = entries;
+    push_rows(&mut entries, rows)?;
+    if let Some(item) = wave {
+        entries.push(Entry::Wave { item })?;
     }
-    Ok(ItemList::from_vec(items))
+    Ok(ItemList::from_vec(entries))
 }

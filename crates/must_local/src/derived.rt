@@ -1,6 +1,7 @@
 //! Communicators that a call makes of others, and collective calls.
 
-ghost use Rattle.std.specs.Prelude.{◌≡◌, map, option_map};
+ghost use Rattle.std.specs.Prelude.{◌≡◌, Some, map, option_map};
+ghost use Rattle.must_call.specs.declared.body.Body.TheVariants as body;
 ghost use Rattle.must_call.specs.declared.field.Field.TheVariants as field;
 ghost use Rattle.must_call.specs.Arguments.{seen, all_seen};
 ghost use Rattle.must_rules.specs.Significant.{comm_in, first_told};
@@ -8,7 +9,7 @@ ghost use Rattle.must_rules.specs.Communicators.{is_there, is_collective, comm_n
 ghost use Rattle.must_local.specs.Objects.{AreMembers, HasMembers};
 ghost use Rattle.must_local.specs.Seen.{derived_seen};
 
-use must_call::{Argument, Body, Handle, Life, MadeComm, Object};
+use must_call::{Argument, Body, Handle, Life, MadeComm, Object, Point};
 
 /// A communicator that is made of another.
 #[derive(Clone, Copy)]
@@ -72,11 +73,36 @@ fn first_comm(arguments: &[Argument<'_>]) -> Option<u32>
     None
 }
 
+/// The communicator of a send, a receive or a probe.
+fn point_comm(point: &Point) -> u32
+    ensures { Some result ≡ comm_named (body.Point point.now) }
+{
+    match point {
+        Point::Send { comm, .. } => *comm,
+        Point::Ssend { comm, .. } => *comm,
+        Point::Bsend { comm, .. } => *comm,
+        Point::Rsend { comm, .. } => *comm,
+        Point::Recv { comm, .. } => *comm,
+        Point::Sendrecv { comm, .. } => *comm,
+        Point::Probe { comm, .. } => *comm,
+        Point::Iprobe { comm, .. } => *comm,
+        Point::Isend { comm, .. } => *comm,
+        Point::Issend { comm, .. } => *comm,
+        Point::Ibsend { comm, .. } => *comm,
+        Point::Irsend { comm, .. } => *comm,
+        Point::Irecv { comm, .. } => *comm,
+    }
+}
+
 /// The communicator that a call names.
 pub fn comm_named(body: &Body) -> Option<u32>
     ensures { result ≡ comm_named body.now }
 {
-    first_comm(&body.inputs())
+    match body {
+        Body::Point(point) => Some(point_comm(point)),
+        Body::Frame(_) | Body::Finish(_) | Body::Derive(_) => None,
+        _ => first_comm(&body.inputs()),
+    }
 }
 
 fn first_of(members: &[u32]) -> i32

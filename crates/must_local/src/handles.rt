@@ -18,7 +18,7 @@ ghost use Rattle.must_rules.specs.Starts.{Clearness};
 ghost use Rattle.must_rules.specs.Limits.{type_limit_at};
 ghost use Rattle.must_derived.specs.Numbers.{IsNext as IsNextType};
 ghost use Rattle.must_derived.specs.Standing.{Stands as TypesStand, IsTypeLimit};
-ghost use Rattle.must_local.specs.HandlesKnown.{Counts, TakesIn, IsLimitAt, full_path, parent_in, too_deep, made_too_deep, usable_comm, comm_made, known_comm, known_operation, known_made, facts_in, HandlesStand};
+ghost use Rattle.must_local.specs.HandlesKnown.{name_told, named_as, Counts, TakesIn, IsLimitAt, full_path, parent_in, too_deep, made_too_deep, usable_comm, comm_made, known_comm, known_operation, known_made, facts_in, HandlesStand};
 
 use crate::comm::Comm;
 use crate::derived::{comm_named, derived_comm, is_collective, is_there};
@@ -28,6 +28,7 @@ use crate::known::Known;
 use crate::objects::Objects;
 use must_args::View;
 use must_base::NoMemory;
+use must_begin::Named;
 use must_call::{Body, Call, Class, Life, Object};
 use must_derived::Datatypes;
 use must_format::Limit;
@@ -170,6 +171,17 @@ impl Handles {
         } else {
             None
         }
+    }
+
+    /// The name of a sound communicator that may be used.
+    pub fn named(&self, number: u32) -> Option<Named<'_>>
+        ensures { name_told result ≡ named_as number (usable_comm self.now number) }
+    {
+        let comm = self.comm(number)?;
+        Some(Named {
+            comm: number,
+            name: comm.name(),
+        })
     }
 
     /// The members of a sound communicator that may be used, where this rank is one.

@@ -21,6 +21,7 @@ mod reductions;
 mod rows;
 #[cfg(test)]
 mod tests;
+mod traffic;
 mod walk;
 #[cfg(test)]
 mod wave_tests;

@@ -5,7 +5,6 @@ ghost use Rattle.must_call.specs.declared.call.Call.{Call};
 ghost use Rattle.must_find.specs.declared.finding.Finding.{Finding};
 ghost use Rattle.must_base.specs.Listing.{Has, Rises};
 ghost use Rattle.must_find.specs.Order.{by_all};
-ghost use Rattle.must_rules.specs.Local.{IsBehind, IsWhole};
 ghost use Rattle.must_call.specs.Handles.{handles_of};
 ghost use Rattle.must_rules.specs.Clear.{is_clear};
 ghost use Rattle.must_rules.specs.Limits.{limit_at};
@@ -15,14 +14,13 @@ ghost use Rattle.must_local.specs.Objects.{HasMembers};
 ghost use Rattle.must_local.specs.HandlesKnown.{IsLimitAt, facts_in, sound_in};
 ghost use Rattle.must_entry.specs.declared.batch.Batch.{Batch};
 ghost use Rattle.must_rules.specs.Search.{or_then, only_if};
-ghost use Rattle.must_local.specs.Adding.{HasRowsBeside, RowsAtEnd};
+ghost use Rattle.must_hold.specs.Keeping.{GivesMore};
+ghost use Rattle.must_local.specs.Adding.{LateRows, HasRowsBeside, RowsAtEnd};
 ghost use Rattle.must_find.specs.Adds.{Adds};
 ghost use Rattle.must_rules.specs.UsableParts.{usable_parts};
-ghost use Rattle.must_rules.specs.WrongLaws.{place_behind};
-ghost use Rattle.must_parts.specs.Rows.{BufferRows};
 ghost use Rattle.must_local.specs.Walks.{rank_by, MayStep, Knows, Walks, GivesAll};
 
-use crate::batch::{call_entries, row_entries};
+use crate::batch::{with_rows, with_rows_and_wave};
 use crate::buffers::take_buffers;
 use crate::fault::WalkFault;
 use crate::handles::Handles;
@@ -30,11 +28,12 @@ use crate::leaks::add_leaks_at;
 use crate::members::are_members;
 use crate::reductions::add_untaken;
 use crate::rows::{add_frames, add_missing, is_finalize_call, is_init_call};
+use crate::traffic::Traffic;
 use crate::waves::wave_item;
 use must_args::{Usable, check_args};
 use must_base::NoMemory;
 use must_call::{Body, Call, Place};
-use must_entry::Batch;
+use must_entry::{Batch, Entry};
 use must_find::Findings;
 use must_parts::Buffers;
 use std::alloc::Global;
@@ -51,19 +50,20 @@ pub struct RankWalk {
     returned: bool,
     handles: Handles,
     buffers: Buffers,
+    traffic: Traffic,
 }
 
 impl Model for RankWalk {
     ghost use Rattle.must_local.specs.Walks.{WalkState};
     ghost use Rattle.std.specs.Coded.{codes};
     ghost use Rattle.must_type.specs.TreeCode.{tree_code};
-    ghost use Rattle.must_local.specs.Codes.{buffers_code};
+    ghost use Rattle.must_local.specs.Codes.{buffers_code, requests_code, messages_code};
 
     ghost Value = { WalkState };
 
-    ghost coded = { Prim.hlevel (codes, tree_code, buffers_code) };
+    ghost coded = { Prim.hlevel (codes, tree_code, buffers_code, requests_code, messages_code) };
 
-    ghost view = { λ w. record { rank = record { rank = w.handles.rank; size = w.size; tag_ub = w.handles.tag_ub }; number = w.number; init = w.init; finalize = w.finalize; returned = w.returned; handles = w.handles; buffers = w.buffers } };
+    ghost view = { λ w. record { rank = record { rank = w.handles.rank; size = w.size; tag_ub = w.handles.tag_ub }; number = w.number; init = w.init; finalize = w.finalize; returned = w.returned; handles = w.handles; buffers = w.buffers; traffic = w.traffic } };
 }
 
 /// The first of two calls, where the earlier is there.
@@ -118,6 +118,7 @@ impl RankWalk {
     {
         let handles = Handles::new(alloc, rank, size, tag_ub)?;
         let buffers = Buffers::new(alloc)?;
+        let traffic = Traffic::new(alloc, rank, tag_ub)?;
         Ok(RankWalk {
             alloc,
             size,
@@ -127,10 +128,11 @@ impl RankWalk {
             returned: true,
             handles,
             buffers,
+            traffic,
         })
     }
 
-    /// The local rows of the next call but those of its buffers, and what its arguments leave for other rules.
+    /// The local rows of the next call but those of its buffers and of its statuses, and what its arguments leave for other rules.
     fn judge(&self, call: &Call) -> Result<Judged, NoMemory>
         requires { length (handles_of call.now.body) < 2 ^ 32 }
         ensures rows { (version : ℕ) (calls : List Call) → Knows version self.now calls → IfOk result (λ judged. HasRowsBeside (rank_by version self.now.rank) calls call.now judged.rows) }
@@ -150,14 +152,22 @@ impl RankWalk {
         Ok(Judged { rows, usable })
     }
 
-    /// Takes the next call into the tables, and adds the rows of its buffers. `usable` is what its arguments leave for other rules.
-    fn take(&mut self, call: &Call, usable: &Usable, rows: &mut Findings) -> Result<(), WalkFault>
+    /// Takes the next call into the tables, adds the rows of its statuses and of its buffers, and puts the messages that can be given
+    /// now behind `entries`. `usable` is what its arguments leave for other rules.
+    fn take(
+        &mut self,
+        call: &Call,
+        usable: &Usable,
+        entries: &mut Vec<Entry>,
+        rows: &mut Findings,
+    ) -> Result<(), WalkFault>
         requires next { IsNext self.old.handles.lives call.now }
         requires few { self.old.number + 1 < 2 ^ 32 }
         requires members { HasMembers (derived_of call.now.body) }
         requires clear { usable.now.clear ≡ is_clear (facts_in self.old.handles) call.now.body }
         requires parts { usable.now.parts ≡ usable_parts (facts_in self.old.handles) (sound_in self.old.handles) call.now.body }
-        ensures rows { OnOk result ((version : ℕ) (calls : List Call) → Knows version self.old calls → Adds rows.old rows.new (BufferRows (place_behind (rank_by version self.old.rank) calls) (rank_by version self.old.rank) calls call.now)) }
+        ensures rows { OnOk result ((version : ℕ) (calls : List Call) → Knows version self.old calls → Adds rows.old rows.new (LateRows (rank_by version self.old.rank) calls call.now)) }
+        ensures gives { OnOk result ((version : ℕ) (calls : List Call) → Knows version self.old calls → GivesMore (rank_by version self.old.rank) calls (calls ++ call.now ∷ []) entries.old.items entries.new.items) }
         ensures knows { OnOk result ((version : ℕ) (calls : List Call) → Knows version self.old calls → Knows version self.new (calls ++ call.now ∷ [])) }
         ensures rank { OnOk result (self.new.rank ≡ self.old.rank) }
         ensures within { OnOk result ((version : ℕ) (calls : List Call) → Knows version self.old calls → limit_at (rank_by version self.old.rank) calls call.now ≡ None) }
@@ -168,6 +178,8 @@ impl RankWalk {
             rank: self.handles.rank,
             call: number,
         };
+        self.traffic
+            .step(self.alloc, &self.handles, at, call, usable, entries, rows)?;
         let size = self.size;
         take_buffers(
             &mut self.buffers,
@@ -214,8 +226,9 @@ impl RankWalk {
             call: self.number,
         };
         let wave = wave_item(self.alloc, &self.handles, at, call, usable.clear)?;
-        self.take(call, &usable, &mut rows)?;
-        let entries = call_entries(self.alloc, rows.as_slice(), wave)?;
+        let mut entries = Vec::new(self.alloc);
+        self.take(call, &usable, &mut entries, &mut rows)?;
+        let entries = with_rows_and_wave(entries, rows.as_slice(), wave)?;
         Ok(Batch {
             rank,
             entries,
@@ -242,9 +255,24 @@ impl RankWalk {
         ensures { IfOk result (λ batch. (version : ℕ) (calls : List Call) (given : List Batch) → Walks version self calls given → GivesAll (rank_by version self.rank) calls (given ++ batch ∷ [])) }
     {
         let rows = self.last_rows()?;
-        let entries = row_entries(self.alloc, rows.as_slice())?;
+        let alloc = self.alloc;
+        let rank = self.handles.rank;
+        let mut entries = Vec::new(alloc);
+        let RankWalk {
+            alloc: _,
+            size: _,
+            number: _,
+            init: _,
+            finalize: _,
+            returned: _,
+            handles: _,
+            buffers: _,
+            traffic,
+        } = self;
+        traffic.finish(&mut entries)?;
+        let entries = with_rows(entries, rows.as_slice())?;
         Ok(Batch {
-            rank: self.handles.rank,
+            rank,
             entries,
             last: true,
         })

@@ -3,3 +3,4 @@ mod Worked
 mod WorkedStatuses
 mod WorkedNeeds
 mod WorkedRound
+pub mod Contradicting

@@ -10,7 +10,7 @@ use Rattle.must_entry.specs.declared.want.Want.{Want}
 use Rattle.must_entry.specs.declared.want.Want.TheVariants.{Op, Wave}
 use Rattle.must_rules.specs.Rank.{Rank}
 use Rattle.must_rules.specs.Answer.{Answer}
-use Rattle.must_messages.specs.Statuses.{status_contradicts}
+use Rattle.must_rules.specs.Statuses.{status_contradicts}
 use Rattle.must_messages.specs.MessageItems.{Item, items_of}
 use Rattle.must_messages.specs.CallNeeds.{needs_of}
 

@@ -20,9 +20,9 @@ use Rattle.must_rules.specs.Known.{group_of, clear_behind}
 use Rattle.must_rules.specs.Types.{type_of}
 use Rattle.must_rules.specs.Parts.{parts_of}
 use Rattle.must_rules.specs.PendingOperations.{parts_behind}
-use Rattle.must_messages.specs.Operations.{message_of, message_started, message_probed, operations_at}
-use Rattle.must_messages.specs.Fates.{fate_of}
-use Rattle.must_messages.specs.Statuses.{contradiction, breaks_status}
+use Rattle.must_rules.specs.Operations.{message_of, message_started, message_probed, operations_at}
+use Rattle.must_rules.specs.Fates.{fate_of}
+use Rattle.must_rules.specs.Statuses.{contradiction, breaks_status}
 use Rattle.must_messages.specs.MessageItems.{no_wild, item_of}
 use Rattle.must_messages.specs.CallNeeds.{at_once, operation_need, waits_for_wave, ways_by}
 use Rattle.must_messages.proofs.WorkedCalls.{rank_of, done, status, empty, on_world, want_of, wave_of, Give}

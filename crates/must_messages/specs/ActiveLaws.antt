@@ -20,11 +20,11 @@ use Rattle.must_rules.specs.Known.{clear_behind}
 use Rattle.must_rules.specs.Breaches.{part_in}
 use Rattle.must_rules.specs.PendingOperations.{begun_request}
 use Rattle.must_messages.specs.PlainLaws.{no_some}
-use Rattle.must_messages.specs.Operations.{Operation, operation, Message, message_at, begun_here, started_from, operations_at, operations_by, operations_of}
+use Rattle.must_rules.specs.Operations.{Operation, operation, Message, message_at, begun_here, started_from, operations_at, operations_by, operations_of}
 use Rattle.must_messages.specs.OperationLaws.{IsBegunBelow, all_join, begun_below, operations_more}
-use Rattle.must_messages.specs.Fates.{Fate, Open, Freed as WasFreed, Done, fate_by, fate_of, statuses_for}
+use Rattle.must_rules.specs.Fates.{Fate, Open, Freed as WasFreed, Done, fate_by, fate_of, statuses_for}
 use Rattle.must_messages.specs.FateLaws.{next_fate, fate_more}
-use Rattle.must_messages.specs.Statuses.{is_done_with, begun_in, under_way}
+use Rattle.must_rules.specs.Statuses.{is_done_with, begun_in, under_way}
 use Rattle.must_messages.specs.UnderWayLaws.{next_under_way, under_way_more}
 use Rattle.must_messages.specs.NameLaws.{take_next, take_past, take_all}
 use Rattle.must_messages.specs.OneSideLaws.{begun_made}

@@ -7,7 +7,7 @@ use Rattle.must_messages.specs.declared.asked.Deed.{Deed}
 use Rattle.must_messages.specs.declared.asked.Deed.TheVariants as deed
 use Rattle.must_messages.specs.declared.asked.Asked.{Asked}
 use Rattle.must_messages.specs.declared.asked.Begun.{Begun}
-use Rattle.must_messages.specs.Operations.{SendMode, Standard, Buffered, Synchronous, Ready, Action, Sends, Receives, Probes, Envelope, Message, Operation}
+use Rattle.must_rules.specs.Operations.{SendMode, Standard, Buffered, Synchronous, Ready, Action, Sends, Receives, Probes, Envelope, Message, Operation}
 use Rattle.must_messages.specs.MessageItems.{signature_in}
 
 abbrev pub mode_seen : Mode → SendMode

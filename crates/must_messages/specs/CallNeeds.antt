@@ -28,10 +28,10 @@ use Rattle.must_rules.specs.Communicators.{is_collective}
 use Rattle.must_rules.specs.Known.{facts_of, clear_behind}
 use Rattle.must_rules.specs.Types.{type_of}
 use Rattle.must_rules.specs.Parts.{with_both}
-use Rattle.must_messages.specs.Turns.{Turn, turns}
-use Rattle.must_messages.specs.Operations.{SendMode, Standard, Buffered, Synchronous, Ready, Action, Sends, Operation, operations_at}
-use Rattle.must_messages.specs.Fates.{fate_of}
-use Rattle.must_messages.specs.Statuses.{is_cancelled, under_way}
+use Rattle.must_rules.specs.Turns.{Turn, turns}
+use Rattle.must_rules.specs.Operations.{SendMode, Standard, Buffered, Synchronous, Ready, Action, Sends, Operation, operations_at}
+use Rattle.must_rules.specs.Fates.{fate_of}
+use Rattle.must_rules.specs.Statuses.{is_cancelled, under_way}
 use Rattle.must_messages.specs.MessageItems.{Item, item_of}
 
 -- ---- alternatives

@@ -9,7 +9,7 @@ use Rattle.must_call.specs.declared.finish.Finish.TheVariants.{Wait, Waitall, Wa
 use Rattle.must_call.specs.declared.body.Body.TheVariants as body
 use Rattle.must_call.specs.Bodies.{given_of}
 use Rattle.must_rules.specs.Making.{requests_of, completed_of, picked, indexed}
-use Rattle.must_messages.specs.Fates.{Completed, completed, each_from, at_index, at_choice, completed_among}
+use Rattle.must_rules.specs.Fates.{Completed, completed, each_from, at_index, at_choice, completed_among}
 
 -- there is one status for each request, as a record has it
 abbrev pub HasStatuses : Finish → Type 0

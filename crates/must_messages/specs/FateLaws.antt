@@ -9,9 +9,9 @@ use Rattle.must_rules.specs.Search.{first_behind, or_then, only_if}
 use Rattle.must_rules.specs.SearchLaws.{behind_more, behind_last}
 use Rattle.must_rules.specs.Making.{completes}
 use Rattle.must_rules.specs.Lives.{ends}
-use Rattle.must_messages.specs.Operations.{Operation}
+use Rattle.must_rules.specs.Operations.{Operation}
 use Rattle.must_messages.specs.Holding.{is_settled}
-use Rattle.must_messages.specs.Fates.{Fate, Open, Freed, Done, own_fate, fate_by, fate_at, fate_with, fate_of, statuses_for}
+use Rattle.must_rules.specs.Fates.{Fate, Open, Freed, Done, own_fate, fate_by, fate_at, fate_with, fate_of, statuses_for}
 
 -- what a call makes of an operation that is under way with a request
 abbrev pub ended_by : (request k : ℕ) → Call → Fate

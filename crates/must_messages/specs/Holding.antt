@@ -8,10 +8,10 @@ use Rattle.must_call.specs.declared.body.Body.TheVariants.{Point, Finish}
 use Rattle.must_call.specs.declared.call.Call.{Call}
 use Rattle.must_entry.specs.Entries.{Waits}
 use Rattle.must_rules.specs.Rank.{Rank}
-use Rattle.must_messages.specs.Turns.{Turn, turns}
-use Rattle.must_messages.specs.Operations.{Operation, operations_of}
-use Rattle.must_messages.specs.Fates.{Fate, Open, fate_of}
-use Rattle.must_messages.specs.Statuses.{under_way}
+use Rattle.must_rules.specs.Turns.{Turn, turns}
+use Rattle.must_rules.specs.Operations.{Operation, operations_of}
+use Rattle.must_rules.specs.Fates.{Fate, Open, fate_of}
+use Rattle.must_rules.specs.Statuses.{under_way}
 use Rattle.must_messages.specs.MessageItems.{Item, item_of}
 use Rattle.must_messages.specs.CallNeeds.{done_here, waits_of}
 

@@ -17,14 +17,14 @@ use Rattle.must_rules.specs.Rank.{Rank}
 use Rattle.must_rules.specs.Starts.{start_of}
 use Rattle.must_rules.specs.Known.{clear_behind}
 use Rattle.must_messages.specs.PlainLaws.{both}
-use Rattle.must_messages.specs.Operations.{Operation, operations_at, operations_of, operations_by, operations_in}
+use Rattle.must_rules.specs.Operations.{Operation, operations_at, operations_of, operations_by, operations_in}
 use Rattle.must_messages.specs.OperationLaws.{IsBegunBy, IsBegunBelow, begun_by, begun_below, operations_more}
-use Rattle.must_messages.specs.Turns.{Turn, turn, turns}
+use Rattle.must_rules.specs.Turns.{Turn, turn, turns}
 use Rattle.must_messages.specs.TurnLaws.{IsTurnBelow, turns_more, turns_below, all_weaker}
 use Rattle.std.proofs.lemmas.List.{map-append}
 use Rattle.must_messages.specs.FateLaws.{fate_stays}
-use Rattle.must_messages.specs.Fates.{fate_of}
-use Rattle.must_messages.specs.Statuses.{is_done_with, begun_in, under_way}
+use Rattle.must_rules.specs.Fates.{fate_of}
+use Rattle.must_rules.specs.Statuses.{is_done_with, begun_in, under_way}
 use Rattle.must_messages.specs.MessageItems.{Item, item_of, items_of}
 use Rattle.must_messages.specs.ItemLaws.{item_stays}
 use Rattle.must_messages.specs.CallNeeds.{answers_request, waits, waits_of, needs_of}

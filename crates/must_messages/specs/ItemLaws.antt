@@ -11,12 +11,12 @@ use Rattle.must_rules.specs.Rank.{Rank}
 use Rattle.must_rules.specs.Search.{first_behind}
 use Rattle.must_rules.specs.Making.{completes}
 use Rattle.must_rules.specs.Lives.{ends}
-use Rattle.must_messages.specs.Operations.{Operation, operations_at, operations_of}
+use Rattle.must_rules.specs.Operations.{Operation, operations_at, operations_of}
 use Rattle.must_messages.specs.OperationLaws.{operations_more}
-use Rattle.must_messages.specs.Fates.{Fate, Open, Freed, Done, own_statuses, own_fate, fate_by, fate_at, fate_with, fate_of, statuses_for}
+use Rattle.must_rules.specs.Fates.{Fate, Open, Freed, Done, own_statuses, own_fate, fate_by, fate_at, fate_with, fate_of, statuses_for}
 use Rattle.must_messages.specs.FateLaws.{fate_stays, behind_within}
 use Rattle.must_messages.specs.Holding.{is_settled}
-use Rattle.must_messages.specs.Statuses.{contradiction, is_cancelled, asked_to_cancel, breaks_status_by, breaks_status}
+use Rattle.must_rules.specs.Statuses.{contradiction, is_cancelled, asked_to_cancel, breaks_status_by, breaks_status}
 use Rattle.must_messages.specs.MessageItems.{Item, item_by, item_of, items_of}
 use Rattle.must_messages.specs.CallNeeds.{item_need, operation_need}
 

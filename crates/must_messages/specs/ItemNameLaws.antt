@@ -28,8 +28,8 @@ use Rattle.must_rules.specs.Communicators.{is_there, there, comm_named, name_of,
 use Rattle.must_rules.specs.Parts.{Part, with_both, numbered}
 use Rattle.must_rules.specs.PendingOperations.{parts_behind, begun_request, starts_at}
 use Rattle.must_messages.specs.PlainLaws.{no_some, same_some}
-use Rattle.must_messages.specs.Turns.{Turn, turns_from, turns}
-use Rattle.must_messages.specs.Operations.{Operation, operation, Envelope, Message, message, action_of, tag_in, envelope_by, envelope_on, envelope_of, message_of, probes, probed, message_probed, waits_for_probe, message_at, message_by, message_made, message_started, begun_by_side, begun_here, with_started, started_from, operations_at, operations_in_turn, operations_of}
+use Rattle.must_rules.specs.Turns.{Turn, turns_from, turns}
+use Rattle.must_rules.specs.Operations.{Operation, operation, Envelope, Message, message, action_of, tag_in, envelope_by, envelope_on, envelope_of, message_of, probes, probed, message_probed, waits_for_probe, message_at, message_by, message_made, message_started, begun_by_side, begun_here, with_started, started_from, operations_at, operations_in_turn, operations_of}
 use Rattle.must_messages.specs.OperationLaws.{all_join}
 use Rattle.must_messages.specs.NameLaws.{name_stays}
 use Rattle.must_messages.specs.MessageItems.{Item, item_seen, item_of, AreMessagesOf}

@@ -14,9 +14,9 @@ use Rattle.must_p2p.specs.declared.item.MsgItem.{MsgItem}
 use Rattle.must_p2p.specs.Items.{end_of, spot_cmp, InOrder}
 use Rattle.must_rules.specs.Rank.{Rank}
 use Rattle.must_messages.specs.PlainLaws.{no_some, same_some}
-use Rattle.must_messages.specs.Operations.{Action, Sends, Receives, Probes, Envelope, Operation, operations_of}
-use Rattle.must_messages.specs.Fates.{Fate, fate_of, status_of}
-use Rattle.must_messages.specs.Statuses.{is_cancelled, breaks_status}
+use Rattle.must_rules.specs.Operations.{Action, Sends, Receives, Probes, Envelope, Operation, operations_of}
+use Rattle.must_rules.specs.Fates.{Fate, fate_of, status_of}
+use Rattle.must_rules.specs.Statuses.{is_cancelled, breaks_status}
 use Rattle.must_messages.specs.MessageItems.{Item, item_seen, known_source, known_tag, probed_source, probed_tag, rank_at, no_wild, wild_of, item, sent, taken, item_by, item_of, items_of, AreMessagesOf}
 use Rattle.must_messages.specs.RiseLaws.{IsBefore, Rise, operations_rise}
 

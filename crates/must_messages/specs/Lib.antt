@@ -1,7 +1,3 @@
-pub mod Turns
-pub mod Operations
-pub mod Fates
-pub mod Statuses
 pub mod MessageItems
 pub mod CallNeeds
 pub mod Asking
@@ -25,3 +21,4 @@ pub mod WildLaws
 pub mod StatusLaws
 pub mod TableLaws
 pub mod CompletionLaws
+pub mod GivenLaws

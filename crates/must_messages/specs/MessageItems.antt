@@ -14,9 +14,9 @@ use Rattle.must_p2p.specs.declared.item.MsgItem.{MsgItem}
 use Rattle.must_rules.specs.Rank.{Rank}
 use Rattle.must_rules.specs.Making.{indexed}
 use Rattle.must_rules.specs.Parts.{Part, with_both}
-use Rattle.must_messages.specs.Operations.{Action, Sends, Receives, Probes, Envelope, Operation, operations_of}
-use Rattle.must_messages.specs.Fates.{Fate, fate_of, status_of, done_in}
-use Rattle.must_messages.specs.Statuses.{is_cancelled, names_any_source, names_any_tag, names_any, breaks_status}
+use Rattle.must_rules.specs.Operations.{Action, Sends, Receives, Probes, Envelope, Operation, operations_of}
+use Rattle.must_rules.specs.Fates.{Fate, fate_of, status_of, done_in}
+use Rattle.must_rules.specs.Statuses.{is_cancelled, names_any_source, names_any_tag, names_any, breaks_status}
 
 -- an item, its signature as a plain list
 pub record Item : Type 0 where

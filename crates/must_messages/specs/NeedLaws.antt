@@ -11,13 +11,13 @@ use Rattle.must_entry.specs.Lawful.{Rise}
 use Rattle.must_rules.specs.Rank.{Rank}
 use Rattle.must_rules.specs.Starts.{start_of}
 use Rattle.must_rules.specs.Known.{clear_behind}
-use Rattle.must_messages.specs.Operations.{Operation}
-use Rattle.must_messages.specs.Fates.{fate_of}
+use Rattle.must_rules.specs.Operations.{Operation}
+use Rattle.must_rules.specs.Fates.{fate_of}
 use Rattle.must_messages.specs.ItemLaws.{need_stays}
-use Rattle.must_messages.specs.Statuses.{under_way}
+use Rattle.must_rules.specs.Statuses.{under_way}
 use Rattle.must_messages.specs.Holding.{is_settled, under_way_among, named_by}
 use Rattle.must_messages.specs.CallNeeds.{Need, Needing, together, one_way, any_way, begun_need, is_started_collective, wave_wants, start_need, request_need, request_needs, done_here, clear_ways, ways_by, ways_of, operation_need, waits_of, needs_of}
-use Rattle.must_messages.specs.Turns.{Turn, turn, turns_from, turns}
+use Rattle.must_rules.specs.Turns.{Turn, turn, turns_from, turns}
 use Rattle.must_messages.specs.TurnLaws.{turns_more}
 use Rattle.std.proofs.lemmas.List.{map-append}
 

@@ -32,7 +32,7 @@ use Rattle.must_rules.specs.Communicators.{comm_named}
 use Rattle.must_rules.specs.Parts.{numbered}
 use Rattle.must_rules.specs.PendingOperations.{parts_behind, request_in, begun_request}
 use Rattle.must_messages.specs.PlainLaws.{no_some, same_some}
-use Rattle.must_messages.specs.Operations.{Envelope, Message, message, action_of, envelope_of, message_of, probes, probed, message_probed, waits_for_probe, message_at}
+use Rattle.must_rules.specs.Operations.{Envelope, Message, message, action_of, envelope_of, message_of, probes, probed, message_probed, waits_for_probe, message_at}
 use Rattle.must_messages.specs.RiseLaws.{both_first, on_peer}
 use Rattle.must_messages.specs.CallNeeds.{answers_request}
 

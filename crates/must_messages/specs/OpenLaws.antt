@@ -26,8 +26,8 @@ use Rattle.must_rules.specs.Known.{clear_behind}
 use Rattle.must_rules.specs.Breaches.{part_in}
 use Rattle.must_rules.specs.PendingOperations.{begun_request, starts_at}
 use Rattle.must_messages.specs.PlainLaws.{both, no_some, same_some}
-use Rattle.must_messages.specs.Operations.{Operation, operation, Message, message_at, message_made, message_started, begun_here, with_started, started_from}
-use Rattle.must_messages.specs.Statuses.{is_done_with}
+use Rattle.must_rules.specs.Operations.{Operation, operation, Message, message_at, message_made, message_started, begun_here, with_started, started_from}
+use Rattle.must_rules.specs.Statuses.{is_done_with}
 use Rattle.must_messages.specs.NameLaws.{take_next, take_past}
 use Rattle.must_messages.specs.OneSideLaws.{begun_made, not_both}
 use Rattle.must_messages.specs.RiseLaws.{IsFrom, started_parts}

@@ -9,8 +9,8 @@ use Rattle.must_call.specs.declared.field.Field.TheVariants.{Buffer}
 use Rattle.must_rules.specs.Breaches.{part_in}
 use Rattle.must_rules.specs.PendingOperations.{begun_request}
 use Rattle.must_rules.specs.Making.{is_persistent_kind, started_of}
-use Rattle.must_messages.specs.Operations.{Operation, operation, Message, message_at, message_started, begun_by_side, begun_here, with_started, started_from, operations_at, operations_in_turn, operations_of}
-use Rattle.must_messages.specs.Turns.{Turn, turn, turns}
+use Rattle.must_rules.specs.Operations.{Operation, operation, Message, message_at, message_started, begun_by_side, begun_here, with_started, started_from, operations_at, operations_in_turn, operations_of}
+use Rattle.must_rules.specs.Turns.{Turn, turn, turns}
 use Rattle.must_messages.specs.TurnLaws.{turns_more, turns_below, IsTurnBelow, all_weaker}
 use Rattle.std.proofs.lemmas.Grind.{flat_map-append}
 use Rattle.std.proofs.lemmas.List.{append-nil}

@@ -22,9 +22,9 @@ use Rattle.must_rules.specs.Communicators.{comm_named, usable_name}
 use Rattle.must_rules.specs.Parts.{with_both, numbered}
 use Rattle.must_rules.specs.PendingOperations.{begun_request, parts_behind}
 use Rattle.must_messages.specs.PlainLaws.{no_some}
-use Rattle.must_messages.specs.Turns.{Turn, turns_from}
+use Rattle.must_rules.specs.Turns.{Turn, turns_from}
 use Rattle.must_messages.specs.TurnLaws.{all_weaker}
-use Rattle.must_messages.specs.Operations.{Operation, operation, Envelope, Message, message, action_of, envelope_by, envelope_on, envelope_of, tag_in, message_of, message_at, message_started, begun_here, with_started, started_from, operations_at, operations_in_turn, operations_of}
+use Rattle.must_rules.specs.Operations.{Operation, operation, Envelope, Message, message, action_of, envelope_by, envelope_on, envelope_of, tag_in, message_of, message_at, message_started, begun_here, with_started, started_from, operations_at, operations_in_turn, operations_of}
 use Rattle.must_messages.specs.OperationLaws.{IsBegunBy, begun_by, all_join}
 
 -- by call, then by part

@@ -11,10 +11,10 @@ use Rattle.must_base.specs.ListingLaws.{all_has}
 use Rattle.must_rules.specs.Rank.{Rank, seen}
 use Rattle.must_rules.specs.Making.{frees, completes}
 use Rattle.must_rules.specs.Numbered.{AreNumbered}
-use Rattle.must_messages.specs.Operations.{Operation, operations_of}
-use Rattle.must_messages.specs.Fates.{Completed, Fate, Open, Freed, Done, fate_by, fate_of, statuses_for}
+use Rattle.must_rules.specs.Operations.{Operation, operations_of}
+use Rattle.must_rules.specs.Fates.{Completed, Fate, Open, Freed, Done, fate_by, fate_of, statuses_for}
 use Rattle.must_messages.specs.FateLaws.{next_fate, fate_more}
-use Rattle.must_messages.specs.Statuses.{asked_to_cancel, contradiction, contradiction_of, completed_wrongly, breaks_status_by, breaks_status}
+use Rattle.must_rules.specs.Statuses.{asked_to_cancel, contradiction, contradiction_of, completed_wrongly, breaks_status_by, breaks_status}
 use Rattle.must_messages.specs.ActiveLaws.{IsActive, open_is_active}
 
 -- a completion of the request of an open operation is judged by that operation, and sees its beginning

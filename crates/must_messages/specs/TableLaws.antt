@@ -7,9 +7,9 @@ use Rattle.std.proofs.Math.Seq.{take-append_seam}
 use Rattle.must_call.specs.declared.life.Life.TheVariants.{Live}
 use Rattle.must_call.specs.declared.call.Call.{Call}
 use Rattle.must_rules.specs.Rank.{Rank}
-use Rattle.must_messages.specs.Operations.{Operation, message_by, message_made}
+use Rattle.must_rules.specs.Operations.{Operation, message_by, message_made}
 use Rattle.must_messages.specs.FateLaws.{get_front, get_there}
-use Rattle.must_messages.specs.Statuses.{is_cancel_of, asked_to_cancel}
+use Rattle.must_rules.specs.Statuses.{is_cancel_of, asked_to_cancel}
 
 -- ---- asked to be cancelled
 

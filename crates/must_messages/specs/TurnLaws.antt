@@ -2,7 +2,7 @@
 use Rattle.std.proofs.Common.{◌≡◌, ℕ, suc, ◌+◌, ◌<◌, List, [], ◌∷◌, ◌++◌, length, refl, ap, subst, ◌∙◌, append_assoc, length-append, arith}
 use Rattle.std.specs.List.{AllByRecursion}
 use Rattle.must_call.specs.declared.call.Call.{Call}
-use Rattle.must_messages.specs.Turns.{Turn, turn, turns_from, turns}
+use Rattle.must_rules.specs.Turns.{Turn, turn, turns_from, turns}
 
 from_more : (earlier calls : List Call) (call : Call) → turns_from earlier (calls ++ call ∷ []) ≡ turns_from earlier calls ++ turn (earlier ++ calls) call ∷ []
 from_more earlier [] call = ap (λ (cs : List Call). turn cs call ∷ []) (none earlier)

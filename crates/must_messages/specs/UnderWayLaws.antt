@@ -14,8 +14,8 @@ use Rattle.must_rules.specs.Starts.{start_of, names_to_start}
 use Rattle.must_rules.specs.StartLaws.{next_start, start_more}
 use Rattle.must_rules.specs.Known.{clear_behind}
 use Rattle.must_messages.specs.PlainLaws.{no_some, same_some}
-use Rattle.must_messages.specs.Operations.{Operation, operations_at, operations_by, operations_in}
-use Rattle.must_messages.specs.Statuses.{is_done_with, begun_in, under_way}
+use Rattle.must_rules.specs.Operations.{Operation, operations_at, operations_by, operations_in}
+use Rattle.must_rules.specs.Statuses.{is_done_with, begun_in, under_way}
 
 -- the operation of a request by its start after one call more, given what call n begins with it and what was under way before
 abbrev pub next_under_way : (n : ℕ) → (begun before : Option Operation) → (start : Option ℕ) → Option Operation

@@ -9,11 +9,11 @@ use Rattle.must_call.specs.declared.call.Call.{Call}
 use Rattle.must_rules.specs.Answer.{Answer, alone}
 use Rattle.must_rules.specs.Rank.{Rank}
 use Rattle.must_messages.specs.PlainLaws.{no_some, same_some}
-use Rattle.must_messages.specs.Turns.{Turn, turns_from, turns}
-use Rattle.must_messages.specs.Operations.{Operation, operations_at, operations_in_turn, operations_of, operations_by, operations_in}
+use Rattle.must_rules.specs.Turns.{Turn, turns_from, turns}
+use Rattle.must_rules.specs.Operations.{Operation, operations_at, operations_in_turn, operations_of, operations_by, operations_in}
 use Rattle.must_messages.specs.OperationLaws.{IsBegunBy, begun_by, all_join}
 use Rattle.must_messages.specs.RiseLaws.{IsBefore, Rise, call_rise}
-use Rattle.must_messages.specs.Statuses.{is_open_wildcard, open_answer, open_wildcard}
+use Rattle.must_rules.specs.Statuses.{is_open_wildcard, open_answer, open_wildcard}
 
 -- ---- turns
 

@@ -4,8 +4,8 @@ ghost use Rattle.std.specs.Prelude.{◌≡◌, length};
 ghost use Rattle.must_messages.specs.Asking.{IsAsked, envelope_seen};
 ghost use Rattle.must_rules.specs.Significant.{is_position};
 ghost use Rattle.must_rules.specs.ArgumentRules.{is_tag};
-ghost use Rattle.must_messages.specs.Statuses.{admits_source, admits_tag, contradiction, wrong_envelope};
-ghost use Rattle.must_messages.specs.Operations.{Message};
+ghost use Rattle.must_rules.specs.Statuses.{admits_source, admits_tag, contradiction, wrong_envelope};
+ghost use Rattle.must_rules.specs.Operations.{Message};
 
 use crate::asked::{Asked, Deed};
 use must_call::{ANY_SOURCE, ANY_TAG, Status3};

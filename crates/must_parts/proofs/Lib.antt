@@ -3,6 +3,7 @@ pub mod Laying
 pub mod Matching
 pub mod Shared
 pub mod Usable
+pub mod Unusable
 pub mod Rooted
 pub mod Fields
 pub mod Placing

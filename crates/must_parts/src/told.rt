@@ -197,6 +197,9 @@ pub fn told_parts<V: View>(
     requires { usable ≡ usable_parts (V.facts view.now) (V.sound view.now) call.now.body }
     ensures { IfOk result (λ told. (r : Rank) (calls : List Call) → Sees r calls (V.facts view.now) (V.sound view.now) (V.starts view.now) types.now → AreTold types.now.table.slots told.items (parts_behind r calls call.now)) }
 {
+    if usable == 0 {
+        return Ok(Vec::new(alloc));
+    }
     let arguments = call.body.inputs();
     let scope = scope_of(view, &call.body, &arguments);
     let parts = told_fields(alloc, types, usable, scope, &arguments)?;

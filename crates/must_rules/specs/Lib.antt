@@ -41,3 +41,7 @@ pub mod WrongLaws
 pub mod Parts
 pub mod Overlaps
 pub mod PendingOperations
+pub mod Turns
+pub mod Operations
+pub mod Fates
+pub mod Statuses

@@ -3,7 +3,7 @@ use Rattle.std.specs.Prelude.{◌≡◌, ℕ, ◌==◌, if◌then◌else◌, Lis
 use Rattle.must_call.specs.declared.class.Class.TheVariants.{Comm, Group, Datatype, Operation, Request}
 use Rattle.must_call.specs.declared.call.Call.{Call}
 use Rattle.must_find.specs.declared.rule.Rule.{Rule}
-use Rattle.must_find.specs.declared.rule.Rule.TheVariants.{I1, I2, I3, A1, A2, A3, A4, A5, A6, A7, H1, H2, H3, H4, H5, T1, T2, T3, C6, L1, L2, L3, L4, L5}
+use Rattle.must_find.specs.declared.rule.Rule.TheVariants.{I1, I2, I3, A1, A2, A3, A4, A5, A6, A7, H1, H2, H3, H4, H5, T1, T2, T3, S1, C6, L1, L2, L3, L4, L5}
 use Rattle.must_find.specs.declared.finding.Finding.{Finding}
 use Rattle.must_rules.specs.Answer.{Answer, at_part}
 use Rattle.must_rules.specs.Rank.{Rank}
@@ -15,6 +15,7 @@ use Rattle.must_rules.specs.Types.{sound_type}
 use Rattle.must_rules.specs.Reductions.{wrong_operation}
 use Rattle.must_rules.specs.Overlaps.{overlap_within, overlap_between}
 use Rattle.must_rules.specs.PendingOperations.{parts_behind, pending_clash}
+use Rattle.must_rules.specs.Statuses.{status_contradicts}
 use Rattle.must_rules.specs.Frames.{outside_init, after_finalize, no_finalize}
 use Rattle.must_rules.specs.Leaks.{not_freed}
 
@@ -48,6 +49,7 @@ finding_behind r earlier call H5 part = wrong_argument r earlier call H5 part
 finding_behind r earlier call T1 part = overlap_within (parts_behind r earlier call) part
 finding_behind r earlier call T2 part = overlap_between (parts_behind r earlier call) part
 finding_behind r earlier call T3 part = pending_clash r earlier call part
+finding_behind r earlier call S1 part = status_contradicts r earlier call part
 finding_behind r earlier call C6 part = at_part 0 (operation_untaken r earlier call) part
 finding_behind r earlier call L1 part = not_freed Datatype r earlier call part
 finding_behind r earlier call L2 part = not_freed Comm r earlier call part

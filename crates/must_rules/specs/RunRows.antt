@@ -1,9 +1,8 @@
--- The rows of a run: a question with one answer, asked at each rank, call, rule and part.
+-- What the rules of one rank find in a run: a question with one answer, asked at each rank, call, rule and part.
 use Rattle.std.specs.Prelude.{◌≡◌, ◌↔◌, ℕ, ◌<◌, List, Option, Some, None, slice_get}
 use Rattle.must_find.specs.declared.rule.Rule.{Rule}
 use Rattle.must_find.specs.declared.finding.Finding.{Finding}
-use Rattle.must_base.specs.Listing.{Has, Lists}
-use Rattle.must_find.specs.Order.{by_place}
+use Rattle.must_base.specs.Listing.{Has}
 use Rattle.must_rules.specs.Run.{Run, Mode, Recorded, size_of}
 use Rattle.must_rules.specs.Answer.{Answer}
 use Rattle.must_rules.specs.Rank.{Rank}
@@ -25,10 +24,6 @@ finding_at run mode rank call rule part = finding_in (size_of run) rank (slice_g
 -- a rule gives this finding at its place
 abbrev pub IsFinding : Run → Mode → Finding → Type 0
 IsFinding run mode f = finding_at run mode f.rank f.call f.rule f.part ≡ Some (f.see, f.value)
-
--- the rows of a run: its findings, each once, in order of rank, call, rule and part
-abbrev pub IsRows : Run → Mode → List Finding → Type 0
-IsRows run mode rows = Lists by_place (IsFinding run mode) rows
 
 -- what stands there are the findings of the ranks below this one
 pub record HasRanksBelow (run : Run) (mode : Mode) (rank : ℕ) (fs : List Finding) : Type 0 where

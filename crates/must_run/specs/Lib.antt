@@ -1,7 +1,14 @@
 pub mod RunWaves
+pub mod RunMessages
 pub mod RunRows
+pub mod RunWaits
 pub mod WaveLists
+pub mod MessageLists
 pub mod ItemPlaces
 pub mod RankLaws
+pub mod RuleKinds
+pub mod WaitPlaces
 pub mod RowPlaces
+pub mod PlainMessages
 pub mod OneReport
+pub mod FactParts

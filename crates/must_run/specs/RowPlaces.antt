@@ -1,71 +1,27 @@
 -- A run has at most one row at a place.
-use Rattle.std.proofs.Common.{◌≡◌, ℕ, true, false, List, [], ◌∷◌, take, Option, Some, None, refl, sym, ap, subst, ◌∙◌, inl, inr}
+use Rattle.std.proofs.Common.{◌≡◌, ℕ, List, [], ◌∷◌, Option, Some, None, refl, sym, ap, subst, ◌∙◌, inl, inr}
 use Rattle.std.specs.declared.cmp.Ordering.{Ordering}
 use Rattle.std.specs.declared.cmp.Ordering.TheVariants.{Less, Equal, Greater}
-use Rattle.std.specs.Prelude.{slice_get}
 use Rattle.std.specs.Ordering.{int_cmp, ordering_then}
 use Rattle.std.specs.Option.{option_cmp}
 use Rattle.std.specs.List.{AllByRecursion}
 use Rattle.must_base.specs.Listing.{Has, Rises}
 use Rattle.must_base.specs.ListingLaws.{rises_nil, rises_cons, rises_head, rises_tail, irreflexive}
-use Rattle.must_call.specs.declared.call.Call.{Call}
 use Rattle.must_find.specs.declared.rule.Rule.{Rule}
-use Rattle.must_find.specs.declared.rule.Rule.TheVariants.{C1, C2, C3, C4, C5, C7, C8}
 use Rattle.must_find.specs.declared.finding.Finding.{Finding}
 use Rattle.must_find.specs.Order.{by_place, by_spot, by_all}
 use Rattle.must_find.specs.OrderLaws.{SamePlace, place_same, finding_same, by_all_total}
-use Rattle.must_coll.specs.declared.item.WaveItem.{WaveItem}
-use Rattle.must_coll.specs.Rows.{IsWaveRow}
+use Rattle.must_p2p.specs.Items.{Orderly}
+use Rattle.must_p2p.specs.PlaceLaws.{message_rows_one}
 use Rattle.must_coll.specs.OneRowLaws.{ArePlacedOnce, HaveDistinctMembers, one_row}
-use Rattle.must_coll.specs.OneRowRules.{is_of_waves, wave_rule}
 use Rattle.must_rules.specs.Answer.{Answer}
-use Rattle.must_rules.specs.Rank.{Rank}
-use Rattle.must_rules.specs.Run.{Run, Mode, Recorded, size_of}
-use Rattle.must_rules.specs.Local.{finding_here, finding_whole, either, local_finding}
-use Rattle.must_rules.specs.RunRows.{rank_in, finding_in, finding_at, IsFinding}
-use Rattle.must_run.specs.RunRows.{IsRunRow}
-
-no_answer : (a : Answer) {P : Type 0} → None ≡ Some a → P
-no_answer a e = absurd cc
-
-untrue : {P : Type 0} → false ≡ true → P
-untrue e = absurd (let no : true ≡ false = sym e in cc)
+use Rattle.must_rules.specs.Run.{Run, Mode}
+use Rattle.must_rules.specs.RunRows.{finding_at, IsFinding}
+use Rattle.must_run.specs.RunRows.{Given, IsRunRow}
+use Rattle.must_run.specs.RuleKinds.{RuleKind, OfRank, OfMessages, OfWaves, kind_of, finding_kind, message_kind, wave_kind}
 
 same_answer : (a b : Answer) → Some a ≡ Some b → a ≡ b
 same_answer a b e = cc
-
--- ---- a rule of waves finds nothing at one rank
-
-none_here : (r : Rank) (earlier : List Call) (o : Option Call) (rule : Rule) (part : ℕ) → is_of_waves rule ≡ true → finding_here r earlier o rule part ≡ None
-none_here r earlier None rule part h = refl
-none_here r earlier (Some call) C1 part h = refl
-none_here r earlier (Some call) C2 part h = refl
-none_here r earlier (Some call) C3 part h = refl
-none_here r earlier (Some call) C4 part h = refl
-none_here r earlier (Some call) C5 part h = refl
-none_here r earlier (Some call) C7 part h = refl
-none_here r earlier (Some call) C8 part h = refl
-none_here r earlier (Some call) _ part h = untrue h
-
-none_whole : (r : Rank) (calls : List Call) (k : ℕ) (rule : Rule) (part : ℕ) → is_of_waves rule ≡ true → finding_whole r calls k rule part ≡ None
-none_whole r calls k C1 part h = refl
-none_whole r calls k C2 part h = refl
-none_whole r calls k C3 part h = refl
-none_whole r calls k C4 part h = refl
-none_whole r calls k C5 part h = refl
-none_whole r calls k C7 part h = refl
-none_whole r calls k C8 part h = refl
-none_whole r calls k _ part h = untrue h
-
-none_in : (size rank : ℕ) (o : Option Recorded) (call : ℕ) (rule : Rule) (part : ℕ) → is_of_waves rule ≡ true → finding_in size rank o call rule part ≡ None
-none_in size rank None call rule part h = refl
-none_in size rank (Some recorded) call rule part h =
-    let r = rank_in size rank recorded in
-    ap (λ (o : Option Answer). either o (finding_whole r recorded.calls call rule part)) (none_here r (take call recorded.calls) (slice_get recorded.calls call) rule part h) ∙ none_whole r recorded.calls call rule part h
-
-apart : (run : Run) (mode : Mode) (items : List WaveItem) (f g : Finding) {P : Type 0} → IsFinding run mode f → IsWaveRow items g → f.rule ≡ g.rule → P
-apart run mode items f g is row same =
-    no_answer (f.see, f.value) (sym (none_in (size_of run) f.rank (slice_get run.ranks f.rank) f.call f.rule f.part (ap is_of_waves same ∙ wave_rule items g row)) ∙ is)
 
 -- ---- one row at a place
 
@@ -76,11 +32,26 @@ finding_one run mode f g s p q =
     let a = same_answer (f.see, f.value) (g.see, g.value) (sym p ∙ at ∙ q) in
     finding_same f g s (ap (λ (w : Answer). w.0) a) (ap (λ (w : Answer). w.1) a)
 
-pub row_one : (run : Run) (mode : Mode) (items : List WaveItem) (f g : Finding) → ArePlacedOnce items → HaveDistinctMembers items → SamePlace f g → IsRunRow run mode items f → IsRunRow run mode items g → f ≡ g
-row_one run mode items f g once distinct s (inl p) (inl q) = finding_one run mode f g s p q
-row_one run mode items f g once distinct s (inl p) (inr q) = apart run mode items f g p q s.rule
-row_one run mode items f g once distinct s (inr p) (inl q) = apart run mode items g f q p (sym s.rule)
-row_one run mode items f g once distinct s (inr p) (inr q) = one_row items f g once distinct p q s.rank s.call s.rule
+-- what a run's messages and calls must be, that at most one row stands at a place
+pub record AreOnce (given : Given) : Type 0 where
+  pub messages : Orderly given.messages
+  pub placed : ArePlacedOnce given.calls
+  pub members : HaveDistinctMembers given.calls
+
+-- rows of two kinds have two rules
+kinds : (f g : Finding) (a b : RuleKind) → kind_of f.rule ≡ a → kind_of g.rule ≡ b → f.rule ≡ g.rule → a ≡ b
+kinds f g a b p q same = sym p ∙ ap kind_of same ∙ q
+
+pub row_one : (run : Run) (mode : Mode) (given : Given) (f g : Finding) → AreOnce given → SamePlace f g → IsRunRow run mode given f → IsRunRow run mode given g → f ≡ g
+row_one run mode given f g once s (inl p) (inl q) = finding_one run mode f g s p q
+row_one run mode given f g once s (inr (inl p)) (inr (inl q)) = message_rows_one given.messages f g once.messages p q (record { rank = s.rank; call = s.call; rule = s.rule; part = s.part })
+row_one run mode given f g once s (inr (inr p)) (inr (inr q)) = one_row given.calls f g once.placed once.members p q s.rank s.call s.rule
+row_one run mode given f g once s (inl p) (inr (inl q)) = absurd (let n : OfRank ≡ OfMessages = kinds f g OfRank OfMessages (finding_kind run mode f p) (message_kind given.messages g q) s.rule in cc)
+row_one run mode given f g once s (inl p) (inr (inr q)) = absurd (let n : OfRank ≡ OfWaves = kinds f g OfRank OfWaves (finding_kind run mode f p) (wave_kind given.calls g q) s.rule in cc)
+row_one run mode given f g once s (inr (inl p)) (inl q) = absurd (let n : OfMessages ≡ OfRank = kinds f g OfMessages OfRank (message_kind given.messages f p) (finding_kind run mode g q) s.rule in cc)
+row_one run mode given f g once s (inr (inl p)) (inr (inr q)) = absurd (let n : OfMessages ≡ OfWaves = kinds f g OfMessages OfWaves (message_kind given.messages f p) (wave_kind given.calls g q) s.rule in cc)
+row_one run mode given f g once s (inr (inr p)) (inl q) = absurd (let n : OfWaves ≡ OfRank = kinds f g OfWaves OfRank (wave_kind given.calls f p) (finding_kind run mode g q) s.rule in cc)
+row_one run mode given f g once s (inr (inr p)) (inr (inl q)) = absurd (let n : OfWaves ≡ OfMessages = kinds f g OfWaves OfMessages (wave_kind given.calls f p) (message_kind given.messages g q) s.rule in cc)
 
 -- ---- rows that rise by all rise by place
 

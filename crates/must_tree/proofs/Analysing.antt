@@ -35,27 +35,31 @@ use Rattle.must_node.specs.declared.closed.Closed.{Closed}
 use Rattle.must_node.specs.Nodes.{StandsFor}
 use Rattle.must_node.specs.Closing.{Settles}
 use Rattle.must_node.specs.EntryRows.{IsRow}
+use Rattle.must_p2p.specs.declared.item.MsgItem.{MsgItem}
+use Rattle.must_p2p.specs.Items as p2p
 use Rattle.must_node.specs.Inner.{inner}
 use Rattle.must_node.specs.ListLaws.{all_pass}
 use Rattle.must_rules.specs.Rank.{Rank}
 use Rattle.must_rules.specs.Run.{Run, Mode, size_of}
 use Rattle.must_rules.specs.Local.{IsLocal}
-use Rattle.must_rules.specs.RunRows.{rank_in}
+use Rattle.must_rules.specs.RunRows.{rank_in, HasRanksBelow}
 use Rattle.must_rules.specs.RunRowLaws.{below_first, below_more}
 use Rattle.must_rules.specs.Streams.{recorded_of}
 use Rattle.must_rules.specs.StreamRuns.{AreComplete, run_of}
 use Rattle.must_run.specs.RunWaves.{AreItemsBelow}
-use Rattle.must_run.specs.RunRows.{IsRunRow, AreRunRows}
-use Rattle.must_run.specs.RowPlaces.{row_one, rise_by_place}
+use Rattle.must_run.specs.RunMessages.{AreMessagesBelow}
+use Rattle.must_run.specs.RunRows.{Given, IsRunRow, AreRunRows}
+use Rattle.must_run.specs.MessageLists.{messages_first, messages_more, messages_all}
+use Rattle.must_run.specs.RowPlaces.{AreOnce, row_one, rise_by_place}
 use Rattle.must_run.specs.WaveLists.{items_first, items_more, items_all}
 use Rattle.must_run.specs.RankLaws.{all_findings}
 use Rattle.must_local.specs.DistinctLaws.{has_append, has_front, has_behind}
-use Rattle.must_local.specs.Walks.{GivesAll, all_rows, collectives}
+use Rattle.must_local.specs.Walks.{GivesAll, all_rows, collectives, message_items}
 use Rattle.must_tree.specs.Told.{flat, told_at, IsLeftOf, AreTied, ShowsNoRefusal}
 use Rattle.must_tree.specs.ToldLaws.{told_within, told_of, stream_at}
 use Rattle.must_tree.specs.Reading.{AreTold, AreAccepted, ReadsRun, RunRows, StopsAt, Analyses}
 use Rattle.must_tree.specs.Ranks.{all_ranks, GivesRank, ReadsRank, HoldsRanks, HoldsBelow, IsFaultOf, fault_at}
-use Rattle.must_tree.proofs.Lawful.{none_lower, batch_calls}
+use Rattle.must_tree.proofs.Lawful.{none_lower, batch_calls, batch_messages}
 use Rattle.must_tree.proofs.Members.{distinct_both}
 use Rattle.must_tree.proofs.RowParts.{row_parts, row_from}
 use Rattle.must_tree.proofs.Reached.{left_unread}
@@ -119,6 +123,7 @@ at_first left faults ps node stands = record {
         batches = [];
         holds = record { lower = none_lower (size_of run); stands = subst (λ (m : ℕ). StandsFor node (all_ranks m) true [] []) (sym n) stands };
         rows = below_first run mode;
+        messages = messages_first run;
         items = items_first run;
         distinct = λ x h. absurd h;
       };
@@ -159,6 +164,8 @@ rows_more left first k old new node more streams within is reads told below run 
       batches = h.batches ++ gives.given;
       holds = gives.takes h.batches h.holds;
       rows = below_more run mode k recorded (all_rows h.batches) (all_rows (h.batches ++ gives.given)) here.recorded_is (rows_added rank here.calls h.batches gives.given gives.gives) h.rows;
+      messages = subst (λ (l : List MsgItem). AreMessagesBelow run (k + 1) l) (sym (flat_map-append (λ (b : Batch). entries.messages b.entries) h.batches gives.given))
+          (messages_more run k recorded (message_items h.batches) (message_items gives.given) here.recorded_is h.messages gives.gives.messages);
       items = subst (λ (l : List WaveItem). AreItemsBelow run (k + 1) l) (sym (flat_map-append (λ (b : Batch). entries.calls b.entries) h.batches gives.given))
           (items_more run k recorded (collectives h.batches) (collectives gives.given) here.recorded_is h.items gives.gives.waves);
       distinct = subst HaveDistinctMembers (sym (flat_map-append (λ (b : Batch). entries.calls b.entries) h.batches gives.given)) (distinct_both (collectives h.batches) (collectives gives.given) h.distinct gives.distinct);
@@ -208,30 +215,54 @@ complete told streams is accepted = λ at bytes e.
     let n : length told ≡ length streams = ap length is ∙ length-map streams Some in
     (a.0, subst (λ (m : ℕ). Accepted m (length streams) bytes a.0) (sym (zero-add at)) (subst (λ (m : ℕ). Accepted at m bytes a.0) n a.1))
 
+-- ---- the rows of what a root node was given
+
+-- the node settled all entries of these batches
+settled_all : (size : ℕ) (batches : List Batch) (closed : Closed) → Settles closed (inner true (all_ranks size) (entries_of batches)) → (f : Finding) → Has closed.findings f ↔ IsRow (entries_of batches) f
+settled_all size batches closed settles f =
+    let all = entries_of batches in
+    let inner_is : inner true (all_ranks size) all ≡ all = all_pass all in
+    subst (λ (es : List Entry). Has closed.findings f ↔ IsRow es f) inner_is (settles.rows f)
+
+abbrev given_of : List Batch → Given
+given_of batches = record { messages = message_items batches; calls = collectives batches }
+
+-- what the rows of a run are by the batches of all its ranks
+row_of_run : (run : Run) (mode : Mode) (rank : ℕ) (batches : List Batch) (f : Finding) → length run.ranks ≤ rank → HasRanksBelow run mode rank (all_rows batches) → IsRow (entries_of batches) f ↔ IsRunRow run mode (given_of batches) f
+row_of_run run mode rank batches f far rows = (
+  λ h. elim (row_parts batches f h) [
+    | inl plain ↦ elim plain [ inl own ↦ inl ((all_findings run mode rank (all_rows batches) f far rows).0 own) | inr m ↦ inr (inl m) ]
+    | inr wave ↦ inr (inr wave)
+  ],
+  λ h. elim h [
+    | inl own ↦ row_from batches f (inl (inl ((all_findings run mode rank (all_rows batches) f far rows).1 own)))
+    | inr other ↦ elim other [ inl m ↦ row_from batches f (inl (inr m)) | inr wave ↦ row_from batches f (inr wave) ]
+  ],
+)
+
+once_of : (run : Run) (batches : List Batch) → IsLawful (all_ranks (size_of run)) batches → HaveDistinctMembers (collectives batches) → AreOnce (given_of batches)
+once_of run batches lawful distinct = record {
+  messages = subst p2p.Orderly (batch_messages batches) lawful.messages;
+  placed = calls_once (collectives batches) (subst (λ (l : List WaveItem). Rise (map {B = Place} (λ (x : WaveItem). x.place) l)) (batch_calls batches) lawful.calls);
+  members = distinct;
+}
+
 -- the rows of what a root node was given
 rows_settled : (run : Run) (mode : Mode) (k : ℕ) (node : Node) (closed : Closed) → length run.ranks ≤ k → Closes node closed → Rises by_all closed.findings → HoldsRanks run mode k node → AreRunRows run mode closed.findings
 rows_settled run mode k node closed far closes rises h =
-    let all = entries_of h.batches in
-    let settles = closes (all_ranks (size_of run)) true h.batches [] h.holds.stands h.holds.lower.lawful in
-    let inner_is : inner true (all_ranks (size_of run)) all ≡ all = all_pass all in
-    let exact : (f : Finding) → Has closed.findings f ↔ IsRow all f = λ f. subst (λ (es : List Entry). Has closed.findings f ↔ IsRow es f) inner_is (settles.rows f) in
-    let once = calls_once (collectives h.batches) (subst (λ (l : List WaveItem). Rise (map {B = Place} (λ (x : WaveItem). x.place) l)) (batch_calls h.batches) h.holds.lower.lawful.calls) in
-    let given : (f : Finding) → Has closed.findings f → IsRunRow run mode (collectives h.batches) f = λ f has. elim (row_parts h.batches f h.holds.lower.silent ((exact f).0 has)) [
-      | inl own ↦ inl ((all_findings run mode k (all_rows h.batches) f far h.rows).0 own)
-      | inr wave ↦ inr wave
-    ] in
+    let size = size_of run in
+    let lawful = h.holds.lower.lawful in
+    let all = settled_all size h.batches closed (closes (all_ranks size) true h.batches [] h.holds.stands lawful) in
+    let exact : (f : Finding) → Has closed.findings f ↔ IsRunRow run mode (given_of h.batches) f = λ f. (
+      λ has. (row_of_run run mode k h.batches f far h.rows).0 ((all f).0 has),
+      λ is. (all f).1 ((row_of_run run mode k h.batches f far h.rows).1 is),
+    ) in
     record {
-      items = collectives h.batches;
-      are_items = items_all run k (collectives h.batches) far h.items;
+      given = given_of h.batches;
+      is_given = record { messages = messages_all run k (message_items h.batches) far h.messages; calls = items_all run k (collectives h.batches) far h.items };
       lists = record {
-        rises = rise_by_place closed.findings (λ f g p q s. row_one run mode (collectives h.batches) f g once h.distinct s (given f p) (given g q)) rises;
-        exact = λ f. (
-          given f,
-          λ is. elim is [
-            | inl own ↦ (exact f).1 (row_from h.batches f (inl ((all_findings run mode k (all_rows h.batches) f far h.rows).1 own)))
-            | inr wave ↦ (exact f).1 (row_from h.batches f (inr wave))
-          ],
-        );
+        rises = rise_by_place closed.findings (λ f g p q s. row_one run mode (given_of h.batches) f g (once_of run h.batches lawful h.distinct) s ((exact f).0 p) ((exact g).0 q)) rises;
+        exact = exact;
       };
     }
 

@@ -56,7 +56,7 @@ gathers_end told version w calls batch old mid new finish takes g =
     let r = rank_by version told in
     let all = g.given ++ batch ∷ [] in
     let gives : GivesAll r calls all = subst (λ (t : RankTold). GivesAll (rank_by version t) calls all) g.rank_is (finish version calls g.given (g.walks version)) in
-    let one : IsOneRank r all = given_rank r calls all (g.walks version).numbered gives in
+    let one : IsOneRank r all = given_rank r calls all (g.walks version).knows.numbered gives in
     record {
       given = all;
       gives = gives;

@@ -16,7 +16,8 @@ use Rattle.must_coll.specs.OneRowLaws.{HaveDistinctMembers}
 use Rattle.must_node.specs.declared.node.Node.{Node}
 use Rattle.must_node.specs.Nodes.{StandsFor}
 use Rattle.must_run.specs.RunWaves.{AreItemsBelow}
-use Rattle.must_local.specs.Walks.{RankTold, WalkState, Walks, GivesAll, IsSilent, all_rows, collectives}
+use Rattle.must_run.specs.RunMessages.{AreMessagesBelow}
+use Rattle.must_local.specs.Walks.{RankTold, WalkState, Walks, GivesAll, all_rows, collectives, message_items}
 use Rattle.must_tree.specs.declared.fault.RunFault.{RunFault}
 use Rattle.must_tree.specs.declared.fault.RunFault.TheVariants as run_fault
 use Rattle.must_tree.specs.Told.{ShowsNoRefusal}
@@ -29,7 +30,6 @@ all_ranks size = record { from = 0; to = size }
 pub record AreLower (size rank : ℕ) (batches : List Batch) : Type 0 where
   pub lawful : IsLawful (all_ranks size) batches
   pub lower : AllByRecursion (λ (b : Batch). b.rank < rank) batches
-  pub silent : AllByRecursion IsSilent batches
 
 -- the root node was given these batches of lower ranks, and nothing else
 pub record Holds (size rank : ℕ) (node : Node) (batches : List Batch) : Type 0 where
@@ -71,11 +71,12 @@ IsLimitFault reached offset (fault.Bound at limit) = (at ≡ offset) × (reached
 IsLimitFault reached offset fault.Read = ⊥
 IsLimitFault reached offset fault.NoMemory = Unit {0}
 
--- what a root node holds of the ranks below this one: their own rows, and the items of their collective calls
+-- what a root node holds of the ranks below this one: their own rows, their messages, and the items of their collective calls
 pub record HoldsRanks (run : Run) (mode : Mode) (rank : ℕ) (node : Node) : Type 0 where
   pub batches : List Batch
   pub holds : Holds (size_of run) rank node batches
   pub rows : HasRanksBelow run mode rank (all_rows batches)
+  pub messages : AreMessagesBelow run rank (message_items batches)
   pub items : AreItemsBelow run rank (collectives batches)
   pub distinct : HaveDistinctMembers (collectives batches)
 

@@ -1,9 +1,13 @@
-use Rattle.std.proofs.Common.{refl, ap, ◌∙◌}
+use Rattle.std.proofs.Common.{List, ◌++◌, ap, ◌∙◌, refl, map, sym}
+use Rattle.must_find.specs.declared.finding.Finding.{Finding}
+use Rattle.must_entry.specs.declared.entry.Entry.{Entry}
+use Rattle.must_entry.specs.declared.entry.Entry.TheVariants.{Row}
 use Rattle.must_local.specs.Walks.{WalkState}
-use Rattle.must_local.proofs.Walked.{walks_end}
+use Rattle.must_local.proofs.Walked.{rest_seen, walks_end}
 use Rattle.must_local.proofs.walk.RankWalk.finish.Goals as goal
 
 pub returns : goal.returns
 returns c = λ version calls given walks.
-    walks_end version c.args.self calls given _ c.in_ok-rows.rows (c.in_ok-rows.ensures version calls walks.knows) (c.in_ok-entries.ensures.rows ∙ c.as_slice.ensures.items) c.in_ok-entries.ensures.calls (ap (λ (w : WalkState). w.rank.rank) c.self.view_is) refl
-    (record { messages = c.in_ok-entries.ensures.messages; needs = c.in_ok-entries.ensures.needs }) walks
+    let rest = rest_seen version _ c.args.self c.self.view_is calls _ _ walks.knows (λ r cs t. c.in_ok-finish.ensures r cs t) in
+    let all = c.in_ok-entries.ensures ∙ ap (λ (l : List Entry). l ++ map Row c.as_slice.result.now) (rest.entries ∙ ap (λ (l : List Entry). l ++ rest.more) c.new-entries.ensures.items) in
+    walks_end version c.args.self calls given _ c.in_ok-rows.rows rest.more (c.in_ok-rows.ensures version calls walks.knows) rest.gives (all ∙ ap (λ (fs : List Finding). rest.more ++ map Row fs) c.as_slice.ensures.items) (ap (λ (w : WalkState). w.rank.rank) c.self.view_is) refl walks

@@ -1,0 +1,12 @@
+pub mod Putting
+pub mod Ending
+pub mod Pushing
+pub mod Items
+pub mod Giving
+pub mod Judging
+pub mod Closing
+pub mod Beginning
+pub mod Recording
+pub mod Judged
+pub mod Taking
+pub mod Finishing

@@ -1,0 +1,9 @@
+pub mod Named
+pub mod Ended
+pub mod Queue
+pub mod Changes
+pub mod Told
+pub mod Judging
+pub mod Taking
+pub mod Keeping
+pub mod ActiveLaws
