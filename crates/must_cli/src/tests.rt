@@ -355,7 +355,7 @@ fn reports_of_one_rank(rt: HostRuntime) -> Result<(), Fail> {
         &[&send(1, 1), &send(1, -1)],
         &found("rank 0 call 1 part 0: error A2 peer out of range, see -, value 1\nviolations 1\n"),
     )?;
-    // A send has no wildcard; a receive has, and its communicator 2 has one member.
+    // A send has no wildcard; a receive has, and its communicator 2 has one member. Nobody sends.
     one_rank(
         &rt,
         alloc,
@@ -366,7 +366,7 @@ fn reports_of_one_rank(rt: HostRuntime) -> Result<(), Fail> {
             &recv(1, 0, 2),
         ],
         &found(
-            "rank 0 call 1 part 0: error A2 peer out of range, see -, value -2\nrank 0 call 3 part 0: error A1 negative count, see -, value -5\nrank 0 call 3 part 0: error A2 peer out of range, see -, value 1\nviolations 3\n",
+            "rank 0 call 1 part 0: error A2 peer out of range, see -, value -2\nrank 0 call 2 part 0: error M4 receive never matched, see -, value 0\nrank 0 call 3 part 0: error A1 negative count, see -, value -5\nrank 0 call 3 part 0: error A2 peer out of range, see -, value 1\nrank 0 call 4 part 0: error M4 receive never matched, see -, value 0\nviolations 5\n",
         ),
     )
 }
@@ -537,7 +537,7 @@ fn runs_of_many_ranks(rt: HostRuntime) -> Result<(), Fail> {
     let c = stream(alloc, 2, 3, &[])?;
     let cut = &b[..b.len().saturating_sub(1)];
     let files = three_files(alloc, &whole("a", &a), &whole("b", &b), &whole("c", &c))?;
-    let line = "rank 1 call 1 part 0: error A2 peer out of range, see -, value 3\nviolations 1\n";
+    let line = "rank 0 call 1 part 0: error M3 send never received, see -, value 0\nrank 1 call 1 part 0: error A2 peer out of range, see -, value 3\nviolations 2\n";
     runs(&rt, alloc, "check a b c", files, &found(line))?;
     // The lowest rank that isn't complete is refused, also where a higher one fails or isn't there.
     let refused = malformed("rank 1 malformed at 63: Truncated\n");
