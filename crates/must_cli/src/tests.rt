@@ -537,7 +537,8 @@ fn runs_of_many_ranks(rt: HostRuntime) -> Result<(), Fail> {
     let c = stream(alloc, 2, 3, &[])?;
     let cut = &b[..b.len().saturating_sub(1)];
     let files = three_files(alloc, &whole("a", &a), &whole("b", &b), &whole("c", &c))?;
-    let line = "rank 0 call 1 part 0: error M3 send never received, see -, value 0\nrank 1 call 1 part 0: error A2 peer out of range, see -, value 3\nviolations 2\n";
+    let line =
+        "rank 0 call 1 part 0: error M3 send never received, see -, value 0\nrank 1 call 1 part 0: error A2 peer out of range, see -, value 3\nviolations 2\n";
     runs(&rt, alloc, "check a b c", files, &found(line))?;
     // The lowest rank that isn't complete is refused, also where a higher one fails or isn't there.
     let refused = malformed("rank 1 malformed at 63: Truncated\n");
