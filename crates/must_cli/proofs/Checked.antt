@@ -16,14 +16,13 @@ use Rattle.must_tree.specs.ToldLaws.{told_within, told_of, stream_at}
 use Rattle.must_tree.specs.Reading.{IsAccepted, IsRefused, StopsAt}
 use Rattle.must_cli.specs.Outside.{Output, Outside}
 use Rattle.must_cli.specs.Statuses.{IsSuccess, IsRefusal, is_found, status_for}
-use Rattle.must_cli.specs.Writing.{Form}
 use Rattle.std.specs.Prelude.{IsTrue, is_some}
 use Rattle.std.proofs.lemmas.Bool.{false≢true}
 use Rattle.toml.specs.Data.{Members}
 use Rattle.must_settings.specs.declared.settings.Settings.{Settings}
 use Rattle.must_settings.specs.RulesFile.{rules_file}
 use Rattle.must_words.specs.Command.{Check}
-use Rattle.must_cli.specs.Settled.{RulesFile, HasRules, Settled, AreSettings, RefusedSettings, FailedRules, IsRefusedRules, AreKnown, form_of}
+use Rattle.must_cli.specs.Settled.{RulesFile, HasRules, Terms, Settled, AreSettings, RefusedSettings, FailedRules, IsRefusedRules, AreKnown, terms_of}
 use Rattle.must_cli.specs.CheckPromises.{CheckAnswers, RulesAnswers, Answers, WantOfMemory, Completeness, CheckPromises, IsKnownAccepted, IsKnownRefused, WholeReport, RefusedStream, OutsideFault, RefusesLowest, ReportsComplete}
 
 not_both : (told : List (Option (List ℕ))) (rank : ℕ) (f : StreamFault) → IsAccepted told rank → IsKnownRefused told rank f → ⊥
@@ -74,54 +73,54 @@ no_refusal o err s is a streams run told records =
 
 -- ---- by the status
 
-whole_from : (form : Form) (o : Outside) (err : Output) (s : Status) → CheckAnswers form o err s → IsSuccess s → WholeReport form o err (is_found s)
-whole_from form o err status.Clean a is = a
-whole_from form o err status.Found a is = a
-whole_from form o err status.Usage a is = absurd is
-whole_from form o err status.Malformed a is = absurd is
-whole_from form o err status.Outside a is = absurd is
-whole_from form o err status.Bound a is = absurd is
-whole_from form o err status.NoMemory a is = absurd is
-whole_from form o err status.Settings a is = absurd is
+whole_from : (terms : Terms) (o : Outside) (err : Output) (s : Status) → CheckAnswers terms o err s → IsSuccess s → WholeReport terms o err (is_found s)
+whole_from terms o err status.Clean a is = a
+whole_from terms o err status.Found a is = a
+whole_from terms o err status.Usage a is = absurd is
+whole_from terms o err status.Malformed a is = absurd is
+whole_from terms o err status.Outside a is = absurd is
+whole_from terms o err status.Bound a is = absurd is
+whole_from terms o err status.NoMemory a is = absurd is
+whole_from terms o err status.Settings a is = absurd is
 
-refused_from : (form : Form) (o : Outside) (err : Output) (s : Status) → CheckAnswers form o err s → IsRefusal s → RefusedStream o err s
-refused_from form o err status.Clean a is = absurd is
-refused_from form o err status.Found a is = absurd is
-refused_from form o err status.Usage a is = absurd is
-refused_from form o err status.Malformed a is = a
-refused_from form o err status.Outside a is = absurd is
-refused_from form o err status.Bound a is = a
-refused_from form o err status.NoMemory a is = absurd is
-refused_from form o err status.Settings a is = absurd is
+refused_from : (terms : Terms) (o : Outside) (err : Output) (s : Status) → CheckAnswers terms o err s → IsRefusal s → RefusedStream o err s
+refused_from terms o err status.Clean a is = absurd is
+refused_from terms o err status.Found a is = absurd is
+refused_from terms o err status.Usage a is = absurd is
+refused_from terms o err status.Malformed a is = a
+refused_from terms o err status.Outside a is = absurd is
+refused_from terms o err status.Bound a is = a
+refused_from terms o err status.NoMemory a is = absurd is
+refused_from terms o err status.Settings a is = absurd is
 
-reported : (form : Form) (o : Outside) (err : Output) (found : Rattle.std.specs.Prelude.Bool) (s : Status) → WholeReport form o err found → RefusesLowest o s
-reported form o err found s a = λ rank f lower refused above.
+reported : (terms : Terms) (o : Outside) (err : Output) (found : Rattle.std.specs.Prelude.Bool) (s : Status) → WholeReport terms o err found → RefusesLowest o s
+reported terms o err found s a = λ rank f lower refused above.
     absurd (not_both o.told rank f (a.reads.accepted rank (told_within o.told rank refused.0 refused.1)) refused)
 
-refuses_from : (form : Form) (o : Outside) (err : Output) (s : Status) → CheckAnswers form o err s → RefusesLowest o s
-refuses_from form o err status.Clean a = reported form o err _ status.Clean a
-refuses_from form o err status.Found a = reported form o err _ status.Found a
-refuses_from form o err status.Usage a = absurd a
-refuses_from form o err status.Malformed a = lowest_refused o err status.Malformed tt a
-refuses_from form o err status.Outside (inl a) = λ rank f lower refused above.
+refuses_from : (terms : Terms) (o : Outside) (err : Output) (s : Status) → CheckAnswers terms o err s → RefusesLowest o s
+refuses_from terms o err status.Clean a = reported terms o err _ status.Clean a
+refuses_from terms o err status.Found a = reported terms o err _ status.Found a
+refuses_from terms o err status.Usage a = absurd a
+refuses_from terms o err status.Malformed a = lowest_refused o err status.Malformed tt a
+refuses_from terms o err status.Outside (inl a) = λ rank f lower refused above.
     let part = a.stops.stops in
     absurd (not_both o.told rank f (a.stops.lower rank (above a.rank part.0 part.1 part.2)) refused)
-refuses_from form o err status.Outside (inr a) = λ rank f lower refused above.
+refuses_from terms o err status.Outside (inr a) = λ rank f lower refused above.
     absurd (not_both o.told rank f (a.reads.accepted rank (told_within o.told rank refused.0 refused.1)) refused)
-refuses_from form o err status.Bound a = lowest_refused o err status.Bound tt a
-refuses_from form o err status.NoMemory a = λ rank f lower refused above. inr refl
-refuses_from form o err status.Settings a = absurd a
+refuses_from terms o err status.Bound a = lowest_refused o err status.Bound tt a
+refuses_from terms o err status.NoMemory a = λ rank f lower refused above. inr refl
+refuses_from terms o err status.Settings a = absurd a
 
-reports_from : (form : Form) (o : Outside) (err : Output) (s : Status) → CheckAnswers form o err s → ReportsComplete o s
-reports_from form o err status.Clean a = λ streams run told records none no. inl tt
-reports_from form o err status.Found a = λ streams run told records none no. inl tt
-reports_from form o err status.Usage a = absurd a
-reports_from form o err status.Malformed a = λ streams run told records none no. absurd (no_refusal o err status.Malformed tt a streams run told records)
-reports_from form o err status.Outside (inl a) = λ streams run told records none no. let part = a.stops.stops in absurd (none a.rank part.0 part.1 part.2)
-reports_from form o err status.Outside (inr a) = λ streams run told records none no. absurd (no a.cuts.rose)
-reports_from form o err status.Bound a = λ streams run told records none no. absurd (no_refusal o err status.Bound tt a streams run told records)
-reports_from form o err status.NoMemory a = λ streams run told records none no. inr refl
-reports_from form o err status.Settings a = absurd a
+reports_from : (terms : Terms) (o : Outside) (err : Output) (s : Status) → CheckAnswers terms o err s → ReportsComplete o s
+reports_from terms o err status.Clean a = λ streams run told records none no. inl tt
+reports_from terms o err status.Found a = λ streams run told records none no. inl tt
+reports_from terms o err status.Usage a = absurd a
+reports_from terms o err status.Malformed a = λ streams run told records none no. absurd (no_refusal o err status.Malformed tt a streams run told records)
+reports_from terms o err status.Outside (inl a) = λ streams run told records none no. let part = a.stops.stops in absurd (none a.rank part.0 part.1 part.2)
+reports_from terms o err status.Outside (inr a) = λ streams run told records none no. absurd (no a.cuts.rose)
+reports_from terms o err status.Bound a = λ streams run told records none no. absurd (no_refusal o err status.Bound tt a streams run told records)
+reports_from terms o err status.NoMemory a = λ streams run told records none no. inr refl
+reports_from terms o err status.Settings a = absurd a
 
 -- ---- the rules file
 
@@ -183,15 +182,15 @@ rules_complete file o err status.NoMemory a known = no_answer o
 
 -- ---- a check with its settings
 
-whole_settled : (check : Check) (file : Option RulesFile) (o : Outside) (err : Output) (s : Status) → Answers check file o err s → IsSuccess s → Settled check file (λ form. WholeReport form o err (is_found s))
+whole_settled : (check : Check) (file : Option RulesFile) (o : Outside) (err : Output) (s : Status) → Answers check file o err s → IsSuccess s → Settled check file (λ terms. WholeReport terms o err (is_found s))
 whole_settled check file o err s (inl a) is = absurd (no_success file o err s a is)
-whole_settled check file o err s (inr a) is = (a.0, a.1, whole_from (form_of check a.0) o err s a.2 is)
+whole_settled check file o err s (inr a) is = (a.0, a.1, whole_from (terms_of check a.0) o err s a.2 is)
 
-refused_settled : (check : Check) (file : Option RulesFile) (o : Outside) (err : Output) (s : Status) → Answers check file o err s → IsRefusal s → Settled check file (λ form. RefusedStream o err s)
+refused_settled : (check : Check) (file : Option RulesFile) (o : Outside) (err : Output) (s : Status) → Answers check file o err s → IsRefusal s → Settled check file (λ terms. RefusedStream o err s)
 refused_settled check file o err s (inl a) is = absurd (no_stream file o err s a is)
-refused_settled check file o err s (inr a) is = (a.0, a.1, refused_from (form_of check a.0) o err s a.2 is)
+refused_settled check file o err s (inr a) is = (a.0, a.1, refused_from (terms_of check a.0) o err s a.2 is)
 
-outside_settled : (check : Check) (file : Option RulesFile) (o : Outside) (err : Output) → Answers check file o err status.Outside → HasRules file (FailedRules o.out err) ⊎ Settled check file (λ form. OutsideFault form o err)
+outside_settled : (check : Check) (file : Option RulesFile) (o : Outside) (err : Output) → Answers check file o err status.Outside → HasRules file (FailedRules o.out err) ⊎ Settled check file (λ terms. OutsideFault terms o err)
 outside_settled check file o err (inl a) = inl a
 outside_settled check file o err (inr a) = inr (a.0, a.1, a.2)
 
@@ -206,7 +205,7 @@ refuses_rules check (Some f) o err s (inr a) r = absurd (not_refused f a.0 a.1 r
 
 complete_from : (check : Check) (file : Option RulesFile) (o : Outside) (err : Output) (s : Status) → Answers check file o err s → AreKnown file → Completeness o s
 complete_from check file o err s (inl a) known = rules_complete file o err s a known
-complete_from check file o err s (inr a) known = let form = form_of check a.0 in record { refuses = refuses_from form o err s a.2; reports = reports_from form o err s a.2 }
+complete_from check file o err s (inr a) known = let terms = terms_of check a.0 in record { refuses = refuses_from terms o err s a.2; reports = reports_from terms o err s a.2 }
 
 pub check_promises : (check : Check) (file : Option RulesFile) (o : Outside) (err : Output) (s : Status) → Answers check file o err s → CheckPromises check file o err s
 check_promises check file o err s a = record {

@@ -7,7 +7,9 @@ use Rattle.must_base.specs.Views.{SourceView}
 use Rattle.must_find.specs.declared.finding.Finding.{Finding}
 use Rattle.must_find.specs.declared.severity.Severity.{Severity}
 use Rattle.must_tree.specs.Told.{told_at, HasFailed, AreTied, IsLeftOf}
-use Rattle.must_tree.specs.Reading.{ReadsRun, Stops, Analyses}
+use Rattle.must_rules.specs.Run.{Mode}
+use Rattle.must_plan.specs.declared.plan.Sends.{Sends}
+use Rattle.must_tree.specs.Reading.{ReadsRun, Stops, Analyses, mode_of}
 use Rattle.must_tree.specs.declared.fault.RunFault.{RunFault}
 use Rattle.must_tree.specs.declared.fault.RunFault.TheVariants as run_fault
 use Rattle.must_settings.specs.declared.settings.Settings.{Settings}
@@ -21,7 +23,7 @@ use Rattle.must_cli.specs.declared.parts.CheckFault.TheVariants as fault
 use Rattle.must_cli.specs.Outside.{Output, outside, Puts}
 use Rattle.must_cli.specs.Lines.{write_line}
 use Rattle.must_cli.specs.Writing.{Cuts}
-use Rattle.must_cli.specs.Settled.{RulesFile, rules_read, rules_of, rules_names, rules_met, names_of, AreSettings, AreTiedRules}
+use Rattle.must_cli.specs.Settled.{RulesFile, rules_read, rules_of, rules_names, rules_met, names_of, AreSettings, AreTiedRules, sends_by}
 use Rattle.must_cli.specs.Parts.{ReadsRules, ReadsCheck, TiedCheck, rules_at}
 use Rattle.must_cli.specs.CheckPromises.{Answers}
 
@@ -118,31 +120,32 @@ pub reads_refused : {S : Type 0} (left : S → Option (List ℕ)) (shows : S →
     → ReadsRules (rules_of (map left (drop n old)) (map shows (drop n new))) (Err f) → ReadsRules (rules_at (map left old) (map shows new) n) (Err f)
 reads_refused left shows n old new f reads = subst (λ (file : Option RulesFile). ReadsRules file (Err f)) (rules_at_is left shows n old new new refl) reads
 
-pub reads_run : {S : Type 0} (left : S → Option (List ℕ)) (shows : S → SourceView) (n : ℕ) (old mid new : List S) (s : Settings) (fs : List Finding) → take n mid ≡ take n old → drop n new ≡ drop n mid
-    → AreSettings (rules_of (map left (drop n old)) (map shows (drop n mid))) s → ReadsRun (map left (take n mid)) (map shows (take n new)) fs
-    → (x : Settings) × AreSettings (rules_at (map left old) (map shows new) n) x × (s.rules ≡ x.rules) × ReadsRun (take n (map left old)) (take n (map shows new)) fs
-reads_run left shows n old mid new s fs front behind are run = (
+pub reads_run : {S : Type 0} (left : S → Option (List ℕ)) (shows : S → SourceView) (n : ℕ) (old mid new : List S) (s : Settings) (words : Option Sends) (mode : Mode) (fs : List Finding) → mode ≡ mode_of (sends_by words s.sends) → take n mid ≡ take n old → drop n new ≡ drop n mid
+    → AreSettings (rules_of (map left (drop n old)) (map shows (drop n mid))) s → ReadsRun mode (map left (take n mid)) (map shows (take n new)) fs
+    → (x : Settings) × AreSettings (rules_at (map left old) (map shows new) n) x × (s.rules ≡ x.rules) × ReadsRun (mode_of (sends_by words x.sends)) (take n (map left old)) (take n (map shows new)) fs
+reads_run left shows n old mid new s words mode fs same front behind are run = (
   s,
   subst (λ (f : Option RulesFile). AreSettings f s) (rules_at_is left shows n old mid new behind) are,
   refl,
-  subst (λ (t : List (Option (List ℕ))). ReadsRun t (take n (map shows new)) fs) (told_front left n old mid front)
-      (subst (λ (ps : List SourceView). ReadsRun (map left (take n mid)) ps fs) (sym (take_map shows n new)) run),
+  subst (λ (t : List (Option (List ℕ))). ReadsRun (mode_of (sends_by words s.sends)) t (take n (map shows new)) fs) (told_front left n old mid front)
+      (subst (λ (ps : List SourceView). ReadsRun (mode_of (sends_by words s.sends)) (map left (take n mid)) ps fs) (sym (take_map shows n new))
+      (subst (λ (m : Mode). ReadsRun m (map left (take n mid)) (map shows (take n new)) fs) same run)),
 )
 
-pub reads_stop : {S : Type 0} (left : S → Option (List ℕ)) (shows : S → SourceView) (n : ℕ) (old mid new : List S) (s : Settings) (f : RunFault) → take n mid ≡ take n old → drop n new ≡ drop n mid
-    → AreSettings (rules_of (map left (drop n old)) (map shows (drop n mid))) s → Analyses (map left (take n mid)) (map shows (take n new)) (Err f)
-    → ReadsCheck n (map left old) (map shows new) (Err (fault.Run f))
-reads_stop left shows n old mid new s (run_fault.Stream rank g) front behind are stops = (
+pub reads_stop : {S : Type 0} (left : S → Option (List ℕ)) (shows : S → SourceView) (n : ℕ) (old mid new : List S) (s : Settings) (words : Option Sends) (mode : Mode) (f : RunFault) → take n mid ≡ take n old → drop n new ≡ drop n mid
+    → AreSettings (rules_of (map left (drop n old)) (map shows (drop n mid))) s → Analyses mode (map left (take n mid)) (map shows (take n new)) (Err f)
+    → ReadsCheck n words (map left old) (map shows new) (Err (fault.Run f))
+reads_stop left shows n old mid new s words mode (run_fault.Stream rank g) front behind are stops = (
   s,
   subst (λ (f : Option RulesFile). AreSettings f s) (rules_at_is left shows n old mid new behind) are,
   subst (λ (t : List (Option (List ℕ))). Stops t (take n (map shows new)) rank g) (told_front left n old mid front)
       (subst (λ (ps : List SourceView). Stops (map left (take n mid)) ps rank g) (sym (take_map shows n new)) stops),
 )
-reads_stop left shows n old mid new s run_fault.NoMemory front behind are stops = tt
+reads_stop left shows n old mid new s words mode run_fault.NoMemory front behind are stops = tt
 
 -- ---- a put that failed
 
-pub write_answers : (told : Told) (check : Check) (parts : List SourceView) (out err : Output) (a : Analysed) → ReadsCheck (length check.files) (map told (names_of check)) parts (Ok a)
+pub write_answers : (told : Told) (check : Check) (parts : List SourceView) (out err : Output) (a : Analysed) → ReadsCheck (length check.files) check.options.sends (map told (names_of check)) parts (Ok a)
     → Cuts (record { csv = check.options.csv; rules = a.rules }) out a.findings → Puts err write_line
     → Answers check (rules_met told parts check) (outside (map told check.files) (take (length check.files) parts) out) err status.Outside
 write_answers told check parts out err a r cuts line = inr (
@@ -150,7 +153,7 @@ write_answers told check parts out err a r cuts line = inr (
   subst (λ (f : Option RulesFile). AreSettings f r.0) (rules_told told check parts) r.1,
   inr (record {
     rows = a.findings;
-    reads = subst (λ (t : List (Option (List ℕ))). ReadsRun t (take (length check.files) parts) a.findings) (files_told told check) r.3;
+    reads = subst (λ (t : List (Option (List ℕ))). ReadsRun (mode_of (sends_by check.options.sends r.0.sends)) t (take (length check.files) parts) a.findings) (files_told told check) r.3;
     cuts = subst (λ (rules : List Severity). Cuts (record { csv = check.options.csv; rules = rules }) out a.findings) r.2 cuts;
     line = line;
   }),

@@ -15,18 +15,18 @@ use Rattle.must_cli.specs.declared.status.Status.TheVariants as status
 use Rattle.must_cli.specs.Statuses.{IsSuccess, IsRefusal, is_found, status_for}
 use Rattle.must_cli.specs.Outside.{Output, Outside, IsUnchanged, HasCut, Puts}
 use Rattle.must_cli.specs.Lines.{rank_line, write_line, memory_line}
-use Rattle.must_cli.specs.Writing.{Form, Writes, Cuts}
+use Rattle.must_cli.specs.Writing.{Writes, Cuts}
 use Rattle.must_words.specs.Command.{Check}
-use Rattle.must_cli.specs.Settled.{RulesFile, HasRules, Settled, RefusedSettings, FailedRules, IsRefusedRules, AreKnown}
+use Rattle.must_cli.specs.Settled.{RulesFile, HasRules, Terms, Settled, RefusedSettings, FailedRules, IsRefusedRules, AreKnown}
 
 -- ---- the answers
 
 -- The report is whole: every stream is accepted and was read to its end, what was put is the report of the run's rows,
 -- and there is no line on the error stream.
-pub record WholeReport (form : Form) (o : Outside) (err : Output) (found : Bool) : Type 0 where
+pub record WholeReport (terms : Terms) (o : Outside) (err : Output) (found : Bool) : Type 0 where
   pub rows : List Finding
-  pub reads : ReadsRun o.told o.parts rows
-  pub writes : Writes form o.out rows found
+  pub reads : ReadsRun terms.mode o.told o.parts rows
+  pub writes : Writes terms.form o.out rows found
   pub quiet : IsUnchanged err
 
 -- Refused stream: the lowest rank whose stream isn't accepted, with its first bad place, which the line names.
@@ -46,15 +46,15 @@ pub record FailedRead (o : Outside) (err : Output) : Type 0 where
   pub line : Puts err (rank_line rank fault.Read)
 
 -- A put of the report failed: every stream is accepted, and a front of the run's report was put.
-pub record FailedWrite (form : Form) (o : Outside) (err : Output) : Type 0 where
+pub record FailedWrite (terms : Terms) (o : Outside) (err : Output) : Type 0 where
   pub rows : List Finding
-  pub reads : ReadsRun o.told o.parts rows
-  pub cuts : Cuts form o.out rows
+  pub reads : ReadsRun terms.mode o.told o.parts rows
+  pub cuts : Cuts terms.form o.out rows
   pub line : Puts err write_line
 
 -- Outside fault: shown by the count of the part or of the output that failed.
-abbrev pub OutsideFault : Form → Outside → Output → Type 0
-OutsideFault form o err = FailedRead o err ⊎ FailedWrite form o err
+abbrev pub OutsideFault : Terms → Outside → Output → Type 0
+OutsideFault terms o err = FailedRead o err ⊎ FailedWrite terms o err
 
 -- Want of memory: nothing was put.
 pub record WantOfMemory (out err : Output) : Type 0 where
@@ -62,15 +62,15 @@ pub record WantOfMemory (out err : Output) : Type 0 where
   pub line : Puts err memory_line
 
 -- what a check answers by its status
-abbrev pub CheckAnswers : Form → Outside → Output → Status → Type 0
-CheckAnswers form o err status.Clean = WholeReport form o err false
-CheckAnswers form o err status.Found = WholeReport form o err true
-CheckAnswers form o err status.Usage = ⊥
-CheckAnswers form o err status.Malformed = RefusedStream o err status.Malformed
-CheckAnswers form o err status.Outside = OutsideFault form o err
-CheckAnswers form o err status.Bound = RefusedStream o err status.Bound
-CheckAnswers form o err status.NoMemory = WantOfMemory o.out err
-CheckAnswers form o err status.Settings = ⊥
+abbrev pub CheckAnswers : Terms → Outside → Output → Status → Type 0
+CheckAnswers terms o err status.Clean = WholeReport terms o err false
+CheckAnswers terms o err status.Found = WholeReport terms o err true
+CheckAnswers terms o err status.Usage = ⊥
+CheckAnswers terms o err status.Malformed = RefusedStream o err status.Malformed
+CheckAnswers terms o err status.Outside = OutsideFault terms o err
+CheckAnswers terms o err status.Bound = RefusedStream o err status.Bound
+CheckAnswers terms o err status.NoMemory = WantOfMemory o.out err
+CheckAnswers terms o err status.Settings = ⊥
 
 -- ---- completeness
 
@@ -126,14 +126,14 @@ RulesAnswers file o err status.Settings = HasRules file (RefusedSettings o.out e
 
 -- what a check answers: the rules file stops it, or the settings stand and the run is checked
 abbrev pub Answers : Check → Option RulesFile → Outside → Output → Status → Type 0
-Answers check file o err answer = RulesAnswers file o err answer ⊎ Settled check file (λ form. CheckAnswers form o err answer)
+Answers check file o err answer = RulesAnswers file o err answer ⊎ Settled check file (λ terms. CheckAnswers terms o err answer)
 
 -- ---- all promises of a check
 
 pub record CheckPromises (check : Check) (file : Option RulesFile) (o : Outside) (err : Output) (answer : Status) : Type 0 where
-  pub whole_report : IsSuccess answer → Settled check file (λ form. WholeReport form o err (is_found answer))
-  pub refused_stream : IsRefusal answer → Settled check file (λ form. RefusedStream o err answer)
-  pub outside_fault : answer ≡ status.Outside → HasRules file (FailedRules o.out err) ⊎ Settled check file (λ form. OutsideFault form o err)
+  pub whole_report : IsSuccess answer → Settled check file (λ terms. WholeReport terms o err (is_found answer))
+  pub refused_stream : IsRefusal answer → Settled check file (λ terms. RefusedStream o err answer)
+  pub outside_fault : answer ≡ status.Outside → HasRules file (FailedRules o.out err) ⊎ Settled check file (λ terms. OutsideFault terms o err)
   pub refused_settings : answer ≡ status.Settings → HasRules file (RefusedSettings o.out err)
   pub refuses_rules : HasRules file IsRefusedRules → (answer ≡ status.Settings) ⊎ (answer ≡ status.NoMemory)
   pub completeness : AreKnown file → Completeness o answer

@@ -2,7 +2,8 @@
 use Rattle.std.specs.Prelude.{◌≡◌, ℕ, List, take, drop, Option, Some, None, Result, Ok, Err}
 use Rattle.must_base.specs.Views.{SourceView}
 use Rattle.must_tree.specs.Told.{HasFailed, AreTied}
-use Rattle.must_tree.specs.Reading.{ReadsRun, Stops}
+use Rattle.must_plan.specs.declared.plan.Sends.{Sends}
+use Rattle.must_tree.specs.Reading.{ReadsRun, Stops, mode_of}
 use Rattle.must_tree.specs.declared.fault.RunFault.TheVariants as run_fault
 use Rattle.must_settings.specs.declared.settings.Settings.{Settings}
 use Rattle.must_settings.specs.declared.fault.RulesFault.{RulesFault}
@@ -11,7 +12,7 @@ use Rattle.must_settings.specs.RulesFile.{rules_file}
 use Rattle.must_cli.specs.declared.parts.CheckFault.{CheckFault}
 use Rattle.must_cli.specs.declared.parts.CheckFault.TheVariants as fault
 use Rattle.must_cli.specs.declared.parts.Analysed.{Analysed}
-use Rattle.must_cli.specs.Settled.{RulesFile, rules_of, HasRules, AreSettings, AreTiedRules}
+use Rattle.must_cli.specs.Settled.{RulesFile, rules_of, HasRules, AreSettings, AreTiedRules, sends_by}
 
 -- ---- the rules file
 
@@ -28,12 +29,12 @@ ReadsRules file (Err rules_fault.NoMemory) = Unit {0}
 abbrev pub rules_at : List (Option (List ℕ)) → List SourceView → ℕ → Option RulesFile
 rules_at told parts n = rules_of (drop n told) (drop n parts)
 
--- what reading the rules file and then the streams says, where the parts show this in the end
-abbrev pub ReadsCheck : ℕ → List (Option (List ℕ)) → List SourceView → Result Analysed CheckFault → Type 0
-ReadsCheck n told parts (Ok a) = (s : Settings) × AreSettings (rules_at told parts n) s × (a.rules ≡ s.rules) × ReadsRun (take n told) (take n parts) a.findings
-ReadsCheck n told parts (Err (fault.Run (run_fault.Stream rank f))) = (s : Settings) × AreSettings (rules_at told parts n) s × Stops (take n told) (take n parts) rank f
-ReadsCheck n told parts (Err (fault.Run run_fault.NoMemory)) = Unit {0}
-ReadsCheck n told parts (Err (fault.Rules f)) = ReadsRules (rules_at told parts n) (Err f)
+-- what reading the rules file and then the streams says, where the words say this of standard sends, and the parts show this in the end
+abbrev pub ReadsCheck : ℕ → Option Sends → List (Option (List ℕ)) → List SourceView → Result Analysed CheckFault → Type 0
+ReadsCheck n words told parts (Ok a) = (s : Settings) × AreSettings (rules_at told parts n) s × (a.rules ≡ s.rules) × ReadsRun (mode_of (sends_by words s.sends)) (take n told) (take n parts) a.findings
+ReadsCheck n words told parts (Err (fault.Run (run_fault.Stream rank f))) = (s : Settings) × AreSettings (rules_at told parts n) s × Stops (take n told) (take n parts) rank f
+ReadsCheck n words told parts (Err (fault.Run run_fault.NoMemory)) = Unit {0}
+ReadsCheck n words told parts (Err (fault.Rules f)) = ReadsRules (rules_at told parts n) (Err f)
 
 -- memory wasn't short
 abbrev pub IsEnough : Result Analysed CheckFault → Type 0

@@ -11,6 +11,8 @@ use Rattle.must_settings.specs.RulesFile.{rules_file, Sets}
 use Rattle.must_words.specs.Command.{Check}
 use Rattle.must_cli.specs.Outside.{Output, IsUnchanged, Puts}
 use Rattle.must_cli.specs.Lines.{settings_line, rules_line}
+use Rattle.must_rules.specs.Run.{Mode}
+use Rattle.must_tree.specs.Reading.{mode_of}
 use Rattle.must_cli.specs.Writing.{Form}
 
 -- a rules file: its bytes, where they are told, and what its part shows at the end
@@ -66,9 +68,17 @@ sends_by words file = unwrap_or words (unwrap_or file Strict)
 abbrev pub form_of : Check → Settings → Form
 form_of check s = record { csv = check.options.csv; rules = s.rules }
 
--- the settings stand, and this holds of the form of the report
-abbrev pub Settled : Check → Option RulesFile → (Form → Type 0) → Type 0
-Settled check file P = (s : Settings) × AreSettings file s × P (form_of check s)
+-- how a check takes standard sends, and how it writes its report
+pub record Terms : Type 0 where
+  pub mode : Mode
+  pub form : Form
+
+abbrev pub terms_of : Check → Settings → Terms
+terms_of check s = record { mode = mode_of (sends_by check.options.sends s.sends); form = form_of check s }
+
+-- the settings stand, and this holds of the terms of the check
+abbrev pub Settled : Check → Option RulesFile → (Terms → Type 0) → Type 0
+Settled check file P = (s : Settings) × AreSettings file s × P (terms_of check s)
 
 -- ---- what else may come of a rules file
 

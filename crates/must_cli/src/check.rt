@@ -30,7 +30,7 @@ fn read_check<T: Trace>(
     trace: &mut T,
 ) -> Result<Analysed, CheckFault>
     requires short { (1 ≤ length words.now.files.now) × (length words.now.files.now ≤ MOST_RANKS) }
-    ensures reads { ReadsCheck (length words.now.files.now) (map (T.files trace.old) (names_of (check_asked words.now))) (map T.Src.shows (T.bound trace.new)) result }
+    ensures reads { ReadsCheck (length words.now.files.now) words.now.options.sends (map (T.files trace.old) (names_of (check_asked words.now))) (map T.Src.shows (T.bound trace.new)) result }
     ensures names { IsEnough result → T.names trace.new ≡ names_of (check_asked words.now) }
     ensures tied { IsEnough result
         → TiedCheck (length words.now.files.now) (map (T.files trace.old) (names_of (check_asked words.now))) (map T.Src.shows (T.bound trace.new)) }

@@ -4,7 +4,7 @@ ghost use Rattle.std.specs.Prelude.{◌≡◌, ◌≤◌, ◌<◌, Some, None, l
 ghost use Rattle.std.specs.List.{AllByRecursion};
 ghost use Rattle.must_format.specs.declared.limits.TheConstants.{MOST_RANKS};
 ghost use Rattle.must_tree.specs.Told.{AreTied};
-ghost use Rattle.must_tree.specs.Reading.{Analyses};
+ghost use Rattle.must_tree.specs.Reading.{Analyses, mode_of};
 ghost use Rattle.must_cli.specs.Settled.{rules_read, rules_of, AreSettings, AreTiedRules, sends_by};
 ghost use Rattle.must_cli.specs.Parts.{ReadsRules, ReadsCheck, TiedCheck};
 
@@ -100,7 +100,7 @@ fn analyse_front<S: Source>(
     requires within { count ≤ length parts.old }
     requires fresh { AllByRecursion (λ part. S.faults part ≡ 0) (take count parts.old) }
     ensures behind { drop count parts.new ≡ drop count parts.old }
-    ensures analyses { Analyses (map S.left (take count parts.old)) (map S.shows (take count parts.new)) result }
+    ensures analyses { Analyses (mode_of plan.now.sends) (map S.left (take count parts.old)) (map S.shows (take count parts.new)) result }
     ensures tied { AreTied (map S.left (take count parts.old)) (map S.shows (take count parts.new)) }
 {
     analyse_serial(alloc, &mut parts[..count], plan)
@@ -145,7 +145,7 @@ pub fn read_parts<S: Source>(
     requires few { (1 ≤ count) × (count ≤ MOST_RANKS) }
     requires within { count ≤ length parts.old }
     requires fresh { AllByRecursion (λ part. S.faults part ≡ 0) parts.old }
-    ensures reads { ReadsCheck count (map S.left parts.old) (map S.shows parts.new) result }
+    ensures reads { ReadsCheck count options.now.sends (map S.left parts.old) (map S.shows parts.new) result }
     ensures tied { TiedCheck count (map S.left parts.old) (map S.shows parts.new) }
 {
     match read_settings(alloc, parts, count) {

@@ -5,6 +5,7 @@ ghost use Rattle.std.specs.Prelude.{◌<◌, All, OnOk, IfOk};
 mod buffers;
 mod outputs;
 mod settings;
+mod waits;
 mod waves;
 
 use crate::run::{run, serial_command};
@@ -315,6 +316,22 @@ fn one_rank(rt: &impl Abort, alloc: Global, records: &[&[u8]], want: &Answer) ->
     )
 }
 
+/// Checks the streams `a` and `b` of two ranks, with these records between Init and Finalize.
+fn two_ranks(
+    rt: &impl Abort,
+    alloc: Global,
+    words: &str,
+    first: &[&[u8]],
+    second: &[&[u8]],
+    want: &Answer,
+) -> Result<(), Fail> {
+    let a = stream(alloc, 0, 2, first)?;
+    let b = stream(alloc, 1, 2, second)?;
+    let mut files = one_file(alloc, &whole("a", &a))?;
+    add_file(alloc, &mut files, &whole("b", &b))?;
+    runs(rt, alloc, words, files, want)
+}
+
 fn found(out: &str) -> Answer<'_> {
     Answer {
         status: Status::Found,
@@ -355,7 +372,7 @@ fn reports_of_one_rank(rt: HostRuntime) -> Result<(), Fail> {
         &[&send(1, 1), &send(1, -1)],
         &found("rank 0 call 1 part 0: error A2 peer out of range, see -, value 1\nviolations 1\n"),
     )?;
-    // A send has no wildcard; a receive has, and its communicator 2 has one member. Nobody sends.
+    // A send has no wildcard; a receive has, and its communicator 2 has one member. Nobody sends, so the rank waits for itself.
     one_rank(
         &rt,
         alloc,
@@ -366,7 +383,7 @@ fn reports_of_one_rank(rt: HostRuntime) -> Result<(), Fail> {
             &recv(1, 0, 2),
         ],
         &found(
-            "rank 0 call 1 part 0: error A2 peer out of range, see -, value -2\nrank 0 call 2 part 0: error M4 receive never matched, see -, value 0\nrank 0 call 3 part 0: error A1 negative count, see -, value -5\nrank 0 call 3 part 0: error A2 peer out of range, see -, value 1\nrank 0 call 4 part 0: error M4 receive never matched, see -, value 0\nviolations 5\n",
+            "rank 0 call 1 part 0: error A2 peer out of range, see -, value -2\nrank 0 call 2 part 0: error M4 receive never matched, see -, value 0\nrank 0 call 2 part 0: error W1 blocked in the deadlock core, see 0:6, value 0\nrank 0 call 3 part 0: error A1 negative count, see -, value -5\nrank 0 call 3 part 0: error A2 peer out of range, see -, value 1\nrank 0 call 4 part 0: error M4 receive never matched, see -, value 0\nviolations 6\n",
         ),
     )
 }
@@ -538,7 +555,7 @@ fn runs_of_many_ranks(rt: HostRuntime) -> Result<(), Fail> {
     let cut = &b[..b.len().saturating_sub(1)];
     let files = three_files(alloc, &whole("a", &a), &whole("b", &b), &whole("c", &c))?;
     let line =
-        "rank 0 call 1 part 0: error M3 send never received, see -, value 0\nrank 1 call 1 part 0: error A2 peer out of range, see -, value 3\nviolations 2\n";
+        "rank 0 call 1 part 0: error M3 send never received, see -, value 0\nrank 0 call 1 part 0: error W2 blocked outside the core, see 2:2, value 0\nrank 1 call 1 part 0: error A2 peer out of range, see -, value 3\nviolations 3\n";
     runs(&rt, alloc, "check a b c", files, &found(line))?;
     // The lowest rank that isn't complete is refused, also where a higher one fails or isn't there.
     let refused = malformed("rank 1 malformed at 63: Truncated\n");

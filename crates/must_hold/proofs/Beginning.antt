@@ -27,11 +27,14 @@ use Rattle.must_hold.specs.declared.held.End.{End}
 use Rattle.must_hold.specs.declared.held.Held.{Held}
 use Rattle.must_hold.specs.declared.held.Held.TheVariants.{Open, Settled}
 use Rattle.must_hold.specs.declared.table.Table.{Table}
-use Rattle.must_hold.specs.Ended.{IsPending, item_ended}
+use Rattle.must_hold.specs.Ended.{IsPending, item_ended, need_ended}
 use Rattle.must_hold.specs.Queue.{Shows, IsOpenAt, Holds, EndsHere, IsNew, is_done}
-use Rattle.must_hold.specs.Changes.{Pushes, Begins}
+use Rattle.must_hold.specs.declared.held.Need.{Need}
+use Rattle.must_hold.specs.Needing.{Tells}
+use Rattle.must_hold.specs.Changes.{Pushes, Begins, not_done}
 use Rattle.must_hold.specs.ActiveLaws.{get_append, get_last, one_open}
 use Rattle.must_hold.proofs.Items.{item_is}
+use Rattle.must_hold.proofs.Needing.{need_told, open_told}
 use Rattle.must_hold.proofs.Pushing.{pushed}
 
 abbrev pub pending_of : ℕ → Begun → Pending
@@ -85,6 +88,15 @@ module _ (r : Rank) (calls : List Call) (call : Call) (op : Operation) (k : ℕ)
   pub shows_settled : (item : Option MsgItem) (end : End) → EndsHere r.tag_ub k op.message call end → begun.request ≡ None → call.returned ≡ true
       → option_map item_seen item ≡ item_ended r.rank (pending_of k begun) end begun.asked.deed → Shows r (calls ++ call ∷ []) (Settled item) op
   shows_settled item end ends none returned e = (ap is_settled (done_now none returned), e ∙ item_now end ends none returned)
+
+  -- what it needs as it stands
+  pub tells_open : ((is_some begun.request ≡ true) ⊎ (call.returned ≡ false)) → Tells r (calls ++ call ∷ []) (need_ended r.rank (pending_of k begun) not_done) op
+  tells_open cases = let s = shows_open cases in open_told r (pending_of k begun) op (calls ++ call ∷ []) s.0 s.2
+
+  pub tells_settled : (end : End) → EndsHere r.tag_ub k op.message call end → begun.request ≡ None → call.returned ≡ true → Tells r (calls ++ call ∷ []) (need_ended r.rank (pending_of k begun) end) op
+  tells_settled end ends none returned =
+      need_told r (pending_of k begun) op (is_pending k begun op is) (calls ++ call ∷ []) end (Done op.call (own_statuses op.message.action call)) (done_now none returned) (sym ends.status) (ap Some is.call_is ∙ sym ends.done)
+      (item_now end ends none returned)
 
   still_open : (q : ℕ) → begun.request ≡ Some q → fate_of (calls ++ call ∷ []) op ≡ StillOpen
   still_open q e = fate_now (Some q) e
@@ -184,6 +196,18 @@ pub held_done : (r : Rank) (calls : List Call) (call : Call) (op : Operation) (r
 held_done r calls call op rank k begun item end same is here done ends e =
     let d = done_here begun.request call.returned done in
     shows_settled r calls call op k begun is here item end ends d.0 d.1 (e ∙ ap (λ (n : ℕ). item_ended n (pending_of k begun) end begun.asked.deed) (sym same))
+
+pub need_done : (r : Rank) (calls : List Call) (call : Call) (op : Operation) (rank k : ℕ) (begun : Begun) (end : End) (need : Need) → r.rank ≡ rank → IsBegun k begun op → length calls ≡ k → is_done begun.request call.returned ≡ true
+    → EndsHere r.tag_ub k op.message call end → need ≡ need_ended rank (pending_of k begun) end → Tells r (calls ++ call ∷ []) need op
+need_done r calls call op rank k begun end need same is here done ends e =
+    let d = done_here begun.request call.returned done in
+    subst (λ (n : Need). Tells r (calls ++ call ∷ []) n op) (sym (e ∙ ap (λ (n : ℕ). need_ended n (pending_of k begun) end) (sym same))) (tells_settled r calls call op k begun is here end ends d.0 d.1)
+
+pub need_open : (r : Rank) (calls : List Call) (call : Call) (op : Operation) (rank k : ℕ) (begun : Begun) (end : End) (need : Need) → r.rank ≡ rank → IsBegun k begun op → length calls ≡ k → is_done begun.request call.returned ≡ false
+    → end ≡ not_done → need ≡ need_ended rank (pending_of k begun) end → Tells r (calls ++ call ∷ []) need op
+need_open r calls call op rank k begun end need same is here done ended e =
+    subst (λ (n : Need). Tells r (calls ++ call ∷ []) n op) (sym (e ∙ ap (need_ended rank (pending_of k begun)) ended ∙ ap (λ (n : ℕ). need_ended n (pending_of k begun) not_done) (sym same)))
+    (tells_open r calls call op k begun is here (not_done_here begun.request call.returned done))
 
 pub last_popped : (xs rest : List Begun) (o : Option Begun) (x : Begun) → o ≡ Some x → xs ≡ rest ++ option_to_list o → xs ≡ rest ++ x ∷ []
 last_popped xs rest o x e is = is ∙ ap (λ (p : Option Begun). rest ++ option_to_list p) e

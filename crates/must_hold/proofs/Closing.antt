@@ -30,11 +30,12 @@ use Rattle.must_hold.specs.declared.judge.Told.{Told}
 use Rattle.must_hold.specs.declared.table.Table.{Table}
 use Rattle.must_hold.specs.Ended.{IsPending, item_ended}
 use Rattle.must_hold.specs.Queue.{IsOpenAt, Holds}
-use Rattle.must_hold.specs.Changes.{Closes, ClosesOthers, not_done, is_either}
+use Rattle.must_hold.specs.Changes.{Finishes, Closes, ClosesOthers, not_done, is_either}
 use Rattle.must_hold.specs.Told.{Wrong, told_by, end_told}
 use Rattle.must_hold.specs.Judging.{Judges}
 use Rattle.must_hold.specs.ActiveLaws.{all_get, has_get}
 use Rattle.must_hold.proofs.Items.{item_is}
+use Rattle.must_hold.proofs.Needing.{need_told}
 use Rattle.must_hold.proofs.Judging.{first_told, breaks_told, first_is, breaks_is}
 
 pub completes_is : (call : Call) (q : ℕ) → is_in (completed_in call) q ≡ completes Request q call
@@ -110,6 +111,13 @@ module _ (r : Rank) (calls : List Call) (call : Call) (numbered : AreNumbered 64
       ∙ ap (λ (b : Bool). item_by r (is_cancelled op fate) b fate op op.message.action op.message.envelope) breaks
       ∙ ap (λ (f : Fate). item_by r (is_cancelled op f) (breaks_status r (calls ++ call ∷ []) op) f op op.message.action op.message.envelope) (sym is)
 
+  -- an operation with this fate, which is settled
+  finishes : (op : Operation) (p : Pending) (end : End) (fate : Fate) → IsPending p op → fate_of (calls ++ call ∷ []) op ≡ fate → is_settled fate ≡ true → status_of fate ≡ end.status → done_in fate ≡ end.done → end.breaks ≡ breaks_status r (calls ++ call ∷ []) op
+      → Finishes r (calls ++ call ∷ []) r.rank p end op
+  finishes op p end fate pending is settled status done breaks =
+      let item = item_now op p end fate pending is status done breaks in
+      record { known = ap is_settled is ∙ settled; item = item; need = need_told r p op pending (calls ++ call ∷ []) end fate is status done item }
+
   -- the operations that the call completes
   pub closes_completed : (wrong : Wrong) (told : ℕ → Option Told) → ((c : Completed) → wrong c ≡ completed_wrongly r calls (Some c)) → ((q : ℕ) → told q ≡ told_by wrong q None (completions_in call))
       → Closes r calls call (operations_of r calls) r.rank (completed_in call) (λ q. end_told (length calls) (told q))
@@ -119,15 +127,13 @@ module _ (r : Rank) (calls : List Call) (call : Call) (numbered : AreNumbered 64
       let fate = done_fate op q below request is_open completed in
       let judged : (c : Completed) → c.request ≡ q → is_some (wrong c) ≡ is_some (contradiction r.tag_ub op.message (asked_to_cancel calls op) c.status) =
       λ c same. ap is_some (wrong_is c ∙ judged_by r calls op c numbered (has_get (operations_of r calls) n op there) (request ∙ ap Some (sym same)) is_open)
-      ∙ some_map (λ (value : ℤ). (seen r.rank op.call, value)) (contradiction r.tag_ub op.message (asked_to_cancel calls op) c.status) in (
-        ap is_settled fate,
-        item_now op p (end_told (length calls) (told q)) (Done (length calls) (statuses_for q call)) pending fate
-            (sym (ap first_told (told_is q) ∙ first_is wrong q (completions_in call)) ∙ status_told (length calls) (told q))
-            (done_told (length calls) (told q))
-            (breaks_ended (length calls) (told q) ∙ ap breaks_told (told_is q)
-            ∙ breaks_is wrong q (λ status. is_some (contradiction r.tag_ub op.message (asked_to_cancel calls op) status)) (completions_in call) judged
-            ∙ sym (breaks_now r calls call op q below request is_open completed)),
-      )
+      ∙ some_map (λ (value : ℤ). (seen r.rank op.call, value)) (contradiction r.tag_ub op.message (asked_to_cancel calls op) c.status) in
+      finishes op p (end_told (length calls) (told q)) (Done (length calls) (statuses_for q call)) pending fate refl
+      (sym (ap first_told (told_is q) ∙ first_is wrong q (completions_in call)) ∙ status_told (length calls) (told q))
+      (done_told (length calls) (told q))
+      (breaks_ended (length calls) (told q) ∙ ap breaks_told (told_is q)
+      ∙ breaks_is wrong q (λ status. is_some (contradiction r.tag_ub op.message (asked_to_cancel calls op) status)) (completions_in call) judged
+      ∙ sym (breaks_now r calls call op q below request is_open completed))
 
   -- what the call frees, and doesn't complete
   pub closes_freed : ClosesOthers r calls call (operations_of r calls) r.rank (completed_in call) (freed_in call) not_done
@@ -141,7 +147,7 @@ module _ (r : Rank) (calls : List Call) (call : Call) (numbered : AreNumbered 64
       ∙ ap (λ (o : Option ℕ). next_fate (length calls) o call StillOpen) request
       ∙ ap (λ (b : Bool). cond b (fate_by q (length calls) (Some call)) StillOpen) ended
       ∙ ap (λ (b : Bool). cond b (Done (length calls) (statuses_for q call)) Freed) (sym (completes_is call q) ∙ not_completed) in
-      (ap is_settled fate, item_now op p not_done Freed pending fate refl refl (ap (breaks_status_by r (calls ++ call ∷ []) op) (sym fate)))
+      finishes op p not_done Freed pending fate refl refl refl (ap (breaks_status_by r (calls ++ call ∷ []) op) (sym fate))
     where
       or_last : (b : Bool) → (b || true) ≡ true
       or_last true = refl

@@ -30,7 +30,7 @@ use Rattle.must_hold.specs.declared.held.Settling.{Settling}
 use Rattle.must_hold.specs.declared.table.Table.{Table}
 use Rattle.must_hold.specs.Ended.{IsPending, item_ended}
 use Rattle.must_hold.specs.Queue.{Shows, IsOpenAt, IsHeldAt, Holds, ShowsWhile, IsHeldWhile, HoldsWhile}
-use Rattle.must_hold.specs.Changes.{IsPut, AreSame, IsAlike, Ends, Cancels, cancelled, Closes, ClosesOthers, not_done, is_either}
+use Rattle.must_hold.specs.Changes.{IsPut, AreSame, IsAlike, Ends, Cancels, cancelled, Finishes, Closes, ClosesOthers, not_done, is_either}
 use Rattle.must_hold.specs.ActiveLaws.{all_get}
 
 -- a request more is done
@@ -45,7 +45,7 @@ both_false : (a b : Bool) → a ≡ false → b ≡ false → (a || b) ≡ false
 both_false true b e f = let no : true ≡ false = e in absurd cc
 both_false false b e f = f
 
-other : (q x : ℕ) → (x ≡ q → ⊥) → (q == x) ≡ false
+pub other : (q x : ℕ) → (x ≡ q → ⊥) → (q == x) ≡ false
 other q x apart = at (q == x) refl
   where
     at : (b : Bool) → (q == x) ≡ b → b ≡ false
@@ -111,8 +111,7 @@ module _ (r : Rank) (calls : List Call) (call : Call) where
     }
 
     pub while_some : (rank n : ℕ) (p : Pending) (end : End) (settling : Option Settling) → get nat_cmp old.numbers q ≡ Some n → Ends rank q n p end settling old new
-        → ((op : Operation) → slice_get ops n ≡ Some op → (is_known (calls ++ call ∷ []) op ≡ true) × (item_ended rank p end p.asked.deed ≡ item_of r (calls ++ call ∷ []) op))
-        → HoldsWhile r calls call new_done ops new
+        → ((op : Operation) → slice_get ops n ≡ Some op → Finishes r (calls ++ call ∷ []) rank p end op) → HoldsWhile r calls call new_done ops new
     while_some rank n p end settling found e settles = record {
       count = e.count ∙ w.count;
       few = subst (λ (g : ℕ). g ≤ length ops) (sym e.given) w.few;
@@ -138,7 +137,7 @@ module _ (r : Rank) (calls : List Call) (call : Call) where
         held_at m op there given true same =
             let is : m ≡ n = eqb-true m n same in
             let known = settles op (ap (slice_get ops) (sym is) ∙ there) in
-            record { one = Settled e.item; there = ap (get nat_cmp new.held) is ∙ e.held.here; shows = ((known.0, e.item_is ∙ known.1), λ x f g. absurd (done_now x g (request_here m op x is there f))) }
+            record { one = Settled e.item; there = ap (get nat_cmp new.held) is ∙ e.held.here; shows = ((known.known, e.item_is ∙ known.item), λ x f g. absurd (done_now x g (request_here m op x is there f))) }
         held_at m op there given false other =
             let one = w.each m op there given in
             record {
@@ -161,8 +160,7 @@ module _ (r : Rank) (calls : List Call) (call : Call) where
         → (get nat_cmp old.numbers q ≡ None → IsAlike old new)
         → ((n : ℕ) (p : Pending) → get nat_cmp old.numbers q ≡ Some n → get nat_cmp old.held n ≡ Some (Open p) → Ends rank q n p end settling old new)
         → (done q ≡ false → (n : ℕ) (p : Pending) (op : Operation) → slice_get ops n ≡ Some op → op.request ≡ Some q → fate_of calls op ≡ StillOpen → IsPending p op
-        → (is_known (calls ++ call ∷ []) op ≡ true) × (item_ended rank p end p.asked.deed ≡ item_of r (calls ++ call ∷ []) op))
-        → HoldsWhile r calls call new_done ops new
+        → Finishes r (calls ++ call ∷ []) rank p end op) → HoldsWhile r calls call new_done ops new
     while_step rank end settling none some closes = at (get nat_cmp old.numbers q) refl
       where
         given_below : (n : ℕ) → IsOpenAt calls ops q n → old.given ≤ n
@@ -203,7 +201,7 @@ module _ (r : Rank) (calls : List Call) (call : Call) where
   open_by k q Freed e = let no : Freed ≡ StillOpen = e in absurd cc
   open_by k q (Done j statuses) e = let no : Done j statuses ≡ StillOpen = e in absurd cc
 
-  still_open : (op : Operation) → op.call < length calls → fate_of calls op ≡ StillOpen → ((q : ℕ) → op.request ≡ Some q → ends false Request q call ≡ false) → fate_of (calls ++ call ∷ []) op ≡ StillOpen
+  pub still_open : (op : Operation) → op.call < length calls → fate_of calls op ≡ StillOpen → ((q : ℕ) → op.request ≡ Some q → ends false Request q call ≡ false) → fate_of (calls ++ call ∷ []) op ≡ StillOpen
   still_open op below is_open not_ended = fate_more calls call op below ∙ ap (next_fate (length calls) op.request call) is_open ∙ at op.request refl
     where
       at : (o : Option ℕ) → op.request ≡ o → next_fate (length calls) o call StillOpen ≡ StillOpen
@@ -399,7 +397,7 @@ while_same r calls call done other_done ops table same w = record {
     shows op (Open p) s = (s.0, λ q e. same q ∙ s.1 q e)
     shows op (Settled item) s = (s.0, λ q e f. s.1 q e (sym (same q) ∙ f))
 
-in_at : (xs : List ℕ) (i d : ℕ) → i < length xs → is_in xs (get_or xs i d) ≡ true
+pub in_at : (xs : List ℕ) (i d : ℕ) → i < length xs → is_in xs (get_or xs i d) ≡ true
 in_at [] i d h = absurd (omega arith)
 in_at (x ∷ xs) zero d h = ap (λ (b : Bool). b || is_in xs x) (Rattle.std.proofs.lemmas.Bool.eq-eqb x x refl)
 in_at (x ∷ xs) (suc i) d h = or_true (x == get_or xs i d) (is_in xs (get_or xs i d)) (in_at xs i d (omega arith))
@@ -419,7 +417,7 @@ complete_step r calls call ops rank requests end i old new ended settling within
     while_step r calls call (is_in (take i requests)) (is_in (take (i + 1) requests)) q (λ x. list_any_more (λ n. n == x) requests i 0 within) ops old new w rank ended settling none some
     (λ not_done n p op there request is_open pending.
     let c = closes q n p op (in_at requests i 0 within) there request is_open pending in
-    (c.0, ap (λ (e : End). item_ended rank p e p.asked.deed) is ∙ c.1))
+    subst (λ (e : End). Finishes r (calls ++ call ∷ []) rank p e op) (sym is) c)
 
 -- the request that the call frees
 pub freed_step : (r : Rank) (calls : List Call) (call : Call) (ops : List Operation) (rank q : ℕ) (done requests : List ℕ) (old new : Table) (ended : End) (settling : Option Settling) → requests ≡ q ∷ [] → ended ≡ not_done
@@ -430,7 +428,7 @@ freed_step r calls call ops rank q done requests old new ended settling one is n
     while_step r calls call (is_in done) (is_either done requests) q (λ x. ap (λ (rs : List ℕ). is_in done x || is_in rs x) one ∙ ap (λ (b : Bool). is_in done x || b) (last (q == x))) ops old new w rank ended settling none some
     (λ not_yet n p op there request is_open pending.
     let c = closes q n p op not_yet (ap (λ (rs : List ℕ). is_in rs q) one ∙ ap (λ (b : Bool). b || false) (Rattle.std.proofs.lemmas.Bool.eq-eqb q q refl)) there request is_open pending in
-    (c.0, ap (λ (e : End). item_ended rank p e p.asked.deed) is ∙ c.1))
+    subst (λ (e : End). Finishes r (calls ++ call ∷ []) rank p e op) (sym is) c)
   where
     last : (b : Bool) → (b || false) ≡ b
     last true = refl

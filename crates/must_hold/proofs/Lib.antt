@@ -2,9 +2,11 @@ pub mod Putting
 pub mod Ending
 pub mod Pushing
 pub mod Items
+pub mod Needing
 pub mod Giving
 pub mod Judging
 pub mod Closing
+pub mod Needs
 pub mod Beginning
 pub mod Recording
 pub mod Judged

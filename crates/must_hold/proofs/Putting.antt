@@ -5,7 +5,7 @@ use Rattle.std.specs.BTreeMap.{BTreeMap, get, is_at, IsEmpty, Updates}
 use Rattle.std.specs.Map.{lookup}
 use Rattle.std.proofs.lemmas.Bool.{ne_eqb}
 use Rattle.must_args.proofs.Seen.{seen_more}
-use Rattle.std.specs.Prelude.{option_map, is_some}
+use Rattle.std.specs.Prelude.{option_map}
 use Rattle.must_p2p.specs.declared.item.MsgItem.{MsgItem}
 use Rattle.must_messages.specs.PlainLaws.{same_some}
 use Rattle.must_messages.specs.MessageItems.{item_seen}
@@ -38,7 +38,7 @@ empty m k e = ap (lookup (is_at (nat_cmp k))) e
 -- the open operation of a request is taken out and put in again as it ended
 pub ended : (rank q n number : ℕ) (p pending : Pending) (end : End) (old new : Table) (middle : BTreeMap ℕ Held) (item : Option MsgItem) (need : Need)
     → get nat_cmp old.numbers q ≡ Some n → get nat_cmp old.held n ≡ Some (Open p) → Some number ≡ get nat_cmp old.numbers q → Some (Open pending) ≡ get nat_cmp old.held number
-    → option_map item_seen item ≡ item_ended rank pending end pending.asked.deed → need ≡ need_ended pending.call pending.part pending.asked.deed end.status (is_some item)
+    → option_map item_seen item ≡ item_ended rank pending end pending.asked.deed → need ≡ need_ended rank pending end
     → Updates nat_cmp old.held middle number None → Updates nat_cmp middle new.held number (Some (Settled item)) → Updates nat_cmp old.numbers new.numbers q None
     → new.count ≡ old.count → new.given ≡ old.given → Ends rank q n p end (Some (record { number = number; need = need })) old new
 ended rank q n number p pending end old new middle item need found here number_is pending_is item_is need_is removed inserted unnumbered count given =

@@ -21,6 +21,7 @@ use Rattle.must_hold.specs.declared.table.Table.{Table}
 use Rattle.must_rules.specs.Making.{is_in}
 use Rattle.must_rules.specs.Fates.{Open as StillOpen, fate_of}
 use Rattle.must_hold.specs.Ended.{IsPending, item_ended, need_ended}
+use Rattle.must_hold.specs.Needing.{Tells}
 use Rattle.must_hold.specs.Queue.{Holds, IsHeldAt}
 
 -- the later map has this at a key, and at all others what the earlier one has
@@ -42,7 +43,7 @@ pub record IsAlike (old new : Table) : Type 0 where
 pub record Ends (rank request n : ℕ) (p : Pending) (end : End) (settling : Option Settling) (old new : Table) : Type 0 where
   pub item : Option MsgItem
   pub item_is : option_map item_seen item ≡ item_ended rank p end p.asked.deed
-  pub settling_is : settling ≡ Some (record { number = n; need = need_ended p.call p.part p.asked.deed end.status (is_some item) })
+  pub settling_is : settling ≡ Some (record { number = n; need = need_ended rank p end })
   pub count : new.count ≡ old.count
   pub given : new.given ≡ old.given
   pub held : IsPut n (Some (Settled item)) old.held new.held
@@ -104,17 +105,23 @@ pub record Giving (r : Rank) (calls : List Call) (ops : List Operation) (old new
   pub given : new.given + length (front (is_known calls) (drop new.given ops)) ≡ old.given + length (front (is_known calls) (drop old.given ops))
   pub holds : Holds r calls ops new
 
+-- this is how an operation ended: what it gives and needs after these calls
+pub record Finishes (r : Rank) (now : List Call) (rank : ℕ) (p : Pending) (end : End) (op : Operation) : Type 0 where
+  pub known : is_known now op ≡ true
+  pub item : item_ended rank p end p.asked.deed ≡ item_of r now op
+  pub need : Tells r now (need_ended rank p end) op
+
 -- the open operations of these requests, which a call ends, ended so
 abbrev pub Closes : Rank → List Call → Call → List Operation → (rank : ℕ) → List ℕ → (ℕ → End) → Type 0
 Closes r calls call ops rank requests end =
     (q n : ℕ) (p : Pending) (op : Operation) → is_in requests q ≡ true → slice_get ops n ≡ Some op → op.request ≡ Some q → fate_of calls op ≡ StillOpen → IsPending p op
-    → (is_known (calls ++ call ∷ []) op ≡ true) × (item_ended rank p (end q) p.asked.deed ≡ item_of r (calls ++ call ∷ []) op)
+    → Finishes r (calls ++ call ∷ []) rank p (end q) op
 
 -- the same of those that aren't among these
 abbrev pub ClosesOthers : Rank → List Call → Call → List Operation → (rank : ℕ) → (done requests : List ℕ) → End → Type 0
 ClosesOthers r calls call ops rank done requests end =
     (q n : ℕ) (p : Pending) (op : Operation) → is_in done q ≡ false → is_in requests q ≡ true → slice_get ops n ≡ Some op → op.request ≡ Some q → fate_of calls op ≡ StillOpen → IsPending p op
-    → (is_known (calls ++ call ∷ []) op ≡ true) × (item_ended rank p end p.asked.deed ≡ item_of r (calls ++ call ∷ []) op)
+    → Finishes r (calls ++ call ∷ []) rank p end op
 
 -- how an operation ends that nothing completes
 abbrev pub not_done : End

@@ -1,5 +1,5 @@
 -- What is told of an operation once it is known how it ended: its item, and what it needs.
-use Rattle.std.specs.Prelude.{◌≡◌, ℕ, ℤ, Bool, true, false, ◌||◌, if◌then◌else◌, List, [], ◌∷◌, Option, Some, None, option_map, option_and_then}
+use Rattle.std.specs.Prelude.{◌≡◌, ℕ, ℤ, Bool, true, false, ◌||◌, ◌&&◌, if◌then◌else◌, List, [], ◌∷◌, Option, Some, None, option_map, option_and_then, is_some, is_none}
 use Rattle.must_call.specs.declared.place.Place.{Place}
 use Rattle.must_call.specs.declared.status.Status3.{Status3}
 use Rattle.must_sig.specs.Signatures.{expansion}
@@ -15,13 +15,13 @@ use Rattle.must_messages.specs.declared.asked.Deed.{Deed}
 use Rattle.must_messages.specs.declared.asked.Deed.TheVariants as deed
 use Rattle.must_messages.specs.declared.asked.Asked.{Asked}
 use Rattle.must_rules.specs.Operations.{Envelope, Operation}
-use Rattle.must_messages.specs.Asking.{IsAsked, envelope_seen}
-use Rattle.must_rules.specs.Statuses.{says_cancelled, names_any_source, names_any_tag, names_any}
+use Rattle.must_messages.specs.Asking.{IsAsked, envelope_seen, action_seen}
+use Rattle.must_rules.specs.Statuses.{says_cancelled, names_any_source, names_any_tag, names_any, is_receive}
 use Rattle.must_messages.specs.MessageItems.{Item, no_wild, rank_at, known_source, known_tag, probed_source, probed_tag}
 use Rattle.must_hold.specs.declared.held.Pending.{Pending}
 use Rattle.must_hold.specs.declared.held.End.{End}
 use Rattle.must_hold.specs.declared.held.Need.{Need}
-use Rattle.must_hold.specs.declared.held.Need.TheVariants.{Never, Nothing, Partner, Wave}
+use Rattle.must_hold.specs.declared.held.Need.TheVariants.{Never, Nothing, Partner, Unmet}
 
 -- what is kept of an operation
 pub record IsPending (p : Pending) (op : Operation) : Type 0 where
@@ -84,8 +84,16 @@ partner call part (deed.Send mode.Standard) = Partner call part true
 partner call part (deed.Send mode.Ready) = Partner call part true
 partner call part _ = Partner call part false
 
-abbrev pub need_ended : (call part : ℕ) → Deed → Option Status3 → (there : Bool) → Need
-need_ended call part d status there = if is_cancelled_as d status then Nothing else if there then partner call part d else Never
+-- nothing completed a receive that named a wildcard
+abbrev pub is_unmet : Deed → Envelope → (done : Option ℕ) → Bool
+is_unmet d e done = is_receive (action_seen d) && (names_any e && is_none done)
+
+abbrev pub need_by : (call part : ℕ) → Deed → Envelope → Option Status3 → (done : Option ℕ) → (there : Bool) → Need
+need_by call part d e status done there = if is_unmet d e done then Unmet call part else if is_cancelled_as d status then Nothing else if there then partner call part d else Never
+
+-- what an operation needs that ended so
+abbrev pub need_ended : (rank : ℕ) → Pending → End → Need
+need_ended rank p end = need_by p.call p.part p.asked.deed (envelope p) end.status end.done (is_some (item_ended rank p end p.asked.deed))
 
 abbrev pub place_at : (rank call : ℕ) → Place
 place_at rank call = record { rank = rank; call = call }
@@ -93,6 +101,11 @@ place_at rank call = record { rank = rank; call = call }
 -- the wants that a need stands for, at a rank; none where nothing will ever do
 abbrev pub need_seen : (rank : ℕ) → Need → Option (List Want)
 need_seen rank Never = None
+need_seen rank (Unmet call part) = None
 need_seen rank Nothing = Some []
 need_seen rank (Partner call part standard) = Some (want.Op (place_at rank call) part standard ∷ [])
-need_seen rank (Wave call) = Some (want.Wave (place_at rank call) ∷ [])
+
+-- the call and the part of an open wildcard
+abbrev pub unmet_at : Need → Option (ℕ × ℕ)
+unmet_at (Unmet call part) = Some (call, part)
+unmet_at _ = None

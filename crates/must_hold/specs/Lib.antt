@@ -1,6 +1,7 @@
 pub mod Named
 pub mod Ended
 pub mod Queue
+pub mod Needing
 pub mod Changes
 pub mod Told
 pub mod Judging

@@ -36,11 +36,9 @@ pub struct End {
     pub breaks: bool,
 }
 
-/// What an operation, or a wave, adds to an alternative of a call that waits for it.
+/// What an operation adds to an alternative of a call that waits for it.
 #[derive(Clone, Copy, Debug, PartialEq, Eq)]
 pub enum Need {
-    /// What never comes.
-    Never,
     Nothing,
     /// The partner of an operation; `standard` where it is needed only if no send is buffered.
     Partner {
@@ -48,9 +46,12 @@ pub enum Need {
         part: u32,
         standard: bool,
     },
-    /// The wave of a collective call.
-    Wave {
+    /// What never comes.
+    Never,
+    /// What never comes: nothing completed a receive from any source or of any tag (rule N1).
+    Unmet {
         call: u32,
+        part: u32,
     },
 }
 

@@ -5,11 +5,11 @@ ghost use Rattle.std.specs.Option.{option_map, option_and_then};
 ghost use Rattle.must_messages.specs.Asking.{envelope_seen};
 ghost use Rattle.must_rules.specs.Statuses.{says_cancelled};
 ghost use Rattle.must_messages.specs.MessageItems.{item_seen, no_wild, known_source, known_tag, probed_source, probed_tag, rank_at};
-ghost use Rattle.must_hold.specs.Ended.{item_for, item_taken, item_sent, item_received, item_probed, item_ended, wild_for, is_cancelled_as, partner, need_ended};
+ghost use Rattle.must_hold.specs.Ended.{item_for, item_taken, item_sent, item_received, item_probed, item_ended, wild_for};
 
-use crate::held::{End, Need, Pending};
+use crate::held::{End, Pending};
 use must_call::{ANY_SOURCE, ANY_TAG, Place, Status3};
-use must_messages::{Asked, Deed, Mode};
+use must_messages::{Asked, Deed};
 use must_p2p::{MsgItem, Side, Wild};
 
 /// The status says so.
@@ -23,7 +23,7 @@ pub fn says_cancelled(status: Option<Status3>) -> bool
 }
 
 /// The world rank at a position of the communicator.
-fn rank_at(asked: &Asked, position: i32) -> Option<u32>
+pub fn rank_at(asked: &Asked, position: i32) -> Option<u32>
     ensures { result ≡ rank_at (envelope_seen asked.now) position }
 {
     match usize::try_from(position) {
@@ -33,7 +33,7 @@ fn rank_at(asked: &Asked, position: i32) -> Option<u32>
 }
 
 /// The world rank at a position, where there is one.
-fn rank_of(asked: &Asked, position: Option<i32>) -> Option<u32>
+pub fn rank_of(asked: &Asked, position: Option<i32>) -> Option<u32>
     ensures { result ≡ option_and_then (rank_at (envelope_seen asked.now)) position }
 {
     match position {
@@ -43,7 +43,7 @@ fn rank_of(asked: &Asked, position: Option<i32>) -> Option<u32>
 }
 
 /// The source that was named, or else the one that the status tells.
-fn known_source(asked: &Asked, status: Option<Status3>) -> Option<i32>
+pub fn known_source(asked: &Asked, status: Option<Status3>) -> Option<i32>
     ensures { result ≡ known_source (envelope_seen asked.now) status }
 {
     if asked.peer != ANY_SOURCE {
@@ -56,7 +56,7 @@ fn known_source(asked: &Asked, status: Option<Status3>) -> Option<i32>
 }
 
 /// The tag that was named, or else the one that the status tells.
-fn known_tag(asked: &Asked, status: Option<Status3>) -> Option<i32>
+pub fn known_tag(asked: &Asked, status: Option<Status3>) -> Option<i32>
     ensures { result ≡ known_tag (envelope_seen asked.now) status }
 {
     if asked.tag != ANY_TAG {
@@ -69,7 +69,7 @@ fn known_tag(asked: &Asked, status: Option<Status3>) -> Option<i32>
 }
 
 /// The source of the message that a probe found, or else the one that it named.
-fn probed_source(asked: &Asked, status: Option<Status3>) -> Option<i32>
+pub fn probed_source(asked: &Asked, status: Option<Status3>) -> Option<i32>
     ensures { result ≡ probed_source (envelope_seen asked.now) status }
 {
     match status {
@@ -79,7 +79,7 @@ fn probed_source(asked: &Asked, status: Option<Status3>) -> Option<i32>
 }
 
 /// The tag of the message that a probe found, or else the one that it named.
-fn probed_tag(asked: &Asked, status: Option<Status3>) -> Option<i32>
+pub fn probed_tag(asked: &Asked, status: Option<Status3>) -> Option<i32>
     ensures { result ≡ probed_tag (envelope_seen asked.now) status }
 {
     match status {
@@ -220,55 +220,5 @@ pub fn item_ended(rank: u32, pending: Pending, end: End) -> Option<MsgItem>
             item_received(rank, pending, end)
         }
         Deed::Probe => item_probed(rank, pending, end),
-    }
-}
-
-/// The operation is cancelled.
-pub fn is_cancelled(deed: Deed, status: Option<Status3>) -> bool
-    ensures { result ≡ is_cancelled_as deed status }
-{
-    match deed {
-        Deed::Probe => false,
-        Deed::Send { .. } | Deed::Receive => says_cancelled(status),
-    }
-}
-
-/// What an operation needs that has an item.
-pub fn partner(call: u32, part: u32, deed: Deed) -> Need
-    ensures { result ≡ partner call part deed }
-{
-    match deed {
-        Deed::Send {
-            mode: Mode::Buffered,
-        } => Need::Nothing,
-        Deed::Send {
-            mode: Mode::Standard | Mode::Ready,
-        } => Need::Partner {
-            call,
-            part,
-            standard: true,
-        },
-        Deed::Send {
-            mode: Mode::Synchronous,
-        }
-        | Deed::Receive
-        | Deed::Probe => Need::Partner {
-            call,
-            part,
-            standard: false,
-        },
-    }
-}
-
-/// What an operation needs that ended with this status; `there` says whether it has an item.
-pub fn need_ended(call: u32, part: u32, deed: Deed, status: Option<Status3>, there: bool) -> Need
-    ensures { result ≡ need_ended call part deed status there }
-{
-    if is_cancelled(deed, status) {
-        Need::Nothing
-    } else if there {
-        partner(call, part, deed)
-    } else {
-        Need::Never
     }
 }

@@ -3,7 +3,7 @@
 //! Operations are numbered in their order, from 0. Those from `given` on are held, and the open ones are found by their requests, of
 //! which each has one at most.
 
-ghost use Rattle.std.specs.Prelude.{◌≡◌, ◌+◌, ◌++◌, ◌∷◌, [], ℕ, List, Option, Some, None, IfOk, OnOk, map, option_map, option_to_list, is_some};
+ghost use Rattle.std.specs.Prelude.{◌≡◌, ◌+◌, ◌++◌, ◌∷◌, [], ℕ, List, Option, Some, None, IfOk, OnOk, map, option_map, option_to_list};
 ghost use Rattle.std.specs.Ordering.{nat_cmp};
 ghost use Rattle.std.specs.BTreeMap.{get};
 ghost use Rattle.must_call.specs.declared.call.Call.{Call};
@@ -19,7 +19,8 @@ ghost use Rattle.must_hold.specs.Queue.{Holds, found, pending_in};
 ghost use Rattle.must_hold.specs.Changes.{IsAlike, Ends, Cancels, Pushes, GivesOne, GivesFront, is_over, may_give, not_done, item_left, GivesAny, GivesAll};
 
 use crate::held::{End, Held, Need, Pending, Settling};
-use crate::item::{item_ended, need_ended};
+use crate::item::item_ended;
+use crate::need::need_ended;
 use must_base::NoMemory;
 use must_entry::Entry;
 use must_p2p::MsgItem;
@@ -72,13 +73,10 @@ fn put_item(entries: &mut Vec<Entry>, item: Option<MsgItem>) -> Result<(), NoMem
 /// What becomes of an operation that ended so: its item, and what it needs.
 fn settled(rank: u32, pending: Pending, end: End) -> (Option<MsgItem>, Need)
     ensures item { option_map item_seen result.0 ≡ item_ended rank pending end pending.asked.deed }
-    ensures need { result.1 ≡ need_ended pending.call pending.part pending.asked.deed end.status (is_some result.0) }
+    ensures need { result.1 ≡ need_ended rank pending end }
 {
-    let call = pending.call;
-    let part = pending.part;
-    let deed = pending.asked.deed;
+    let need = need_ended(&pending, end);
     let item = item_ended(rank, pending, end);
-    let need = need_ended(call, part, deed, end.status, item.is_some());
     (item, need)
 }
 
@@ -155,7 +153,7 @@ impl Table {
     /// Ends the open operation of a request, where there is one.
     pub fn end(&mut self, rank: u32, request: u32, end: End) -> Result<Option<Settling>, NoMemory>
         ensures given { OnOk result (self.new.given ≡ self.old.given) }
-        ensures none { get nat_cmp self.old.numbers request ≡ None → IfOk result (λ s. IsAlike self.old self.new) }
+        ensures none { get nat_cmp self.old.numbers request ≡ None → IfOk result (λ s. (s ≡ None) × IsAlike self.old self.new) }
         ensures some { (n : ℕ) (p : Pending) → get nat_cmp self.old.numbers request ≡ Some n → get nat_cmp self.old.held n ≡ Some (Open p) → IfOk result (λ s. Ends rank request n p end s self.old self.new) }
     {
         let Some(number) = self.numbers.remove(&request) else {

@@ -24,11 +24,13 @@ ghost use Rattle.must_hold.specs.Queue.{Holds, HoldsWhile, Shows, EndsHere, IsNe
 ghost use Rattle.must_hold.specs.Taking.{Takes};
 ghost use Rattle.must_hold.specs.Changes.{Closes, ClosesOthers, not_done, is_either};
 ghost use Rattle.must_hold.specs.Told.{end_told};
+ghost use Rattle.must_hold.specs.Needing.{Tells, HaveNeeds, HaveNeedsWhile};
 
 use crate::completed::{cancelled, completed, completions, freed};
-use crate::held::{End, Held, Pending};
+use crate::held::{End, Held, Need, Pending};
 use crate::item::item_ended;
 use crate::judge::{Told, end_told, judge_all};
+use crate::need::{need_ended, set_need};
 use crate::table::{Table, not_done};
 use must_base::NoMemory;
 use must_call::{Call, Given, Place, Status3};
@@ -47,29 +49,39 @@ fn end_for(k: u32, told: &BTreeMap<u32, Told>, request: u32) -> End
 /// Ends the open operations of these requests, which call `k` completes, as their statuses say.
 fn end_completed(
     table: &mut Table,
+    needs: &mut Vec<Need>,
     rank: u32,
     k: u32,
     requests: &[u32],
     told: &BTreeMap<u32, Told>,
 ) -> Result<(), NoMemory>
+    ensures needs { OnOk result ((r : Rank) (calls : List Call) (call : Call) (ops : List Operation) → HoldsWhile r calls call (λ q. false) ops table.old → Closes r calls call ops rank requests.now (λ q. end_told k (get nat_cmp told.now q)) → HaveNeedsWhile r calls call (λ q. false) ops needs.old.items → HaveNeedsWhile r calls call (is_in requests.now) ops needs.new.items) }
     ensures given { OnOk result (table.new.given ≡ table.old.given) }
     ensures ended { OnOk result ((r : Rank) (calls : List Call) (call : Call) (ops : List Operation) → HoldsWhile r calls call (λ q. false) ops table.old → Closes r calls call ops rank requests.now (λ q. end_told k (get nat_cmp told.now q)) → HoldsWhile r calls call (is_in requests.now) ops table.new) }
 {
     for request in requests {
         let end = end_for(k, told, *request);
-        table.end(rank, *request, end)?;
+        let settling = table.end(rank, *request, end)?;
+        set_need(needs, settling);
     }
     Ok(())
 }
 
 /// Ends the open operation of a request that a call frees.
-fn end_freed(table: &mut Table, rank: u32, request: Option<u32>) -> Result<(), NoMemory>
+fn end_freed(
+    table: &mut Table,
+    needs: &mut Vec<Need>,
+    rank: u32,
+    request: Option<u32>,
+) -> Result<(), NoMemory>
+    ensures needs { OnOk result ((r : Rank) (calls : List Call) (call : Call) (ops : List Operation) (done : List ℕ) → HoldsWhile r calls call (is_in done) ops table.old → ClosesOthers r calls call ops rank done (option_to_list request) not_done → HaveNeedsWhile r calls call (is_in done) ops needs.old.items → HaveNeedsWhile r calls call (is_either done (option_to_list request)) ops needs.new.items) }
     ensures given { OnOk result (table.new.given ≡ table.old.given) }
     ensures ended { OnOk result ((r : Rank) (calls : List Call) (call : Call) (ops : List Operation) (done : List ℕ) → HoldsWhile r calls call (is_in done) ops table.old → ClosesOthers r calls call ops rank done (option_to_list request) not_done → HoldsWhile r calls call (is_either done (option_to_list request)) ops table.new) }
 {
     if let Some(request) = request {
         let end = not_done();
-        table.end(rank, request, end)?;
+        let settling = table.end(rank, request, end)?;
+        set_need(needs, settling);
     }
     Ok(())
 }
@@ -141,9 +153,10 @@ fn is_done(request: Option<u32>, returned: bool) -> bool
     }
 }
 
-/// What is held of an operation that call `k` begins.
-fn held_at(rank: u32, tag_ub: i32, k: u32, call: &Call, begun: Begun) -> Held
-    ensures { (r : Rank) (calls : List Call) (op : Operation) → r.rank ≡ rank → r.tag_ub ≡ tag_ub → length calls ≡ k → IsBegun k begun op → Shows r (calls ++ call.now ∷ []) result op }
+/// What is held of an operation that call `k` begins, and what it needs as it stands.
+fn held_at(rank: u32, tag_ub: i32, k: u32, call: &Call, begun: Begun) -> (Held, Need)
+    ensures shows { (r : Rank) (calls : List Call) (op : Operation) → r.rank ≡ rank → r.tag_ub ≡ tag_ub → length calls ≡ k → IsBegun k begun op → Shows r (calls ++ call.now ∷ []) result.0 op }
+    ensures tells { (r : Rank) (calls : List Call) (op : Operation) → r.rank ≡ rank → r.tag_ub ≡ tag_ub → length calls ≡ k → IsBegun k begun op → Tells r (calls ++ call.now ∷ []) result.1 op }
 {
     let pending = Pending {
         call: k,
@@ -153,44 +166,51 @@ fn held_at(rank: u32, tag_ub: i32, k: u32, call: &Call, begun: Begun) -> Held
         cancel: false,
     };
     if !is_done(pending.request, call.returned) {
-        return Held::Open(pending);
+        let need = need_ended(&pending, not_done());
+        return (Held::Open(pending), need);
     }
     let end = own_end(tag_ub, k, &pending.asked, call);
-    Held::Settled(item_ended(rank, pending, end))
+    let need = need_ended(&pending, end);
+    (Held::Settled(item_ended(rank, pending, end)), need)
 }
 
 /// Holds an operation that call `k` begins.
 fn begin_one(
     table: &mut Table,
+    needs: &mut Vec<Need>,
     rank: u32,
     tag_ub: i32,
     k: u32,
     call: &Call,
     begun: Begun,
 ) -> Result<(), NoMemory>
-    ensures { OnOk result ((r : Rank) (calls : List Call) (op : Operation) (ops : List Operation) → r.rank ≡ rank → r.tag_ub ≡ tag_ub → length calls ≡ k → IsBegun k begun op → IsNew (calls ++ call.now ∷ []) ops op → table.old.given ≤ length ops → Holds r (calls ++ call.now ∷ []) ops table.old → Holds r (calls ++ call.now ∷ []) (ops ++ op ∷ []) table.new × (table.new.given ≡ table.old.given)) }
+    ensures needs { OnOk result ((r : Rank) (calls : List Call) (op : Operation) (ops : List Operation) → r.rank ≡ rank → r.tag_ub ≡ tag_ub → length calls ≡ k → IsBegun k begun op → HaveNeeds r (calls ++ call.now ∷ []) ops needs.old.items → HaveNeeds r (calls ++ call.now ∷ []) (ops ++ op ∷ []) needs.new.items) }
+    ensures holds { OnOk result ((r : Rank) (calls : List Call) (op : Operation) (ops : List Operation) → r.rank ≡ rank → r.tag_ub ≡ tag_ub → length calls ≡ k → IsBegun k begun op → IsNew (calls ++ call.now ∷ []) ops op → table.old.given ≤ length ops → Holds r (calls ++ call.now ∷ []) ops table.old → Holds r (calls ++ call.now ∷ []) (ops ++ op ∷ []) table.new × (table.new.given ≡ table.old.given)) }
 {
     let request = begun.request;
-    let held = held_at(rank, tag_ub, k, call, begun);
+    let (held, need) = held_at(rank, tag_ub, k, call, begun);
     table.push(held, request)?;
+    needs.push(need)?;
     Ok(())
 }
 
 /// Holds the operations that call `k` begins.
 pub fn begin(
     table: &mut Table,
+    needs: &mut Vec<Need>,
     rank: u32,
     tag_ub: i32,
     k: u32,
     call: &Call,
     begun: Vec<Begun>,
 ) -> Result<(), NoMemory>
-    ensures { OnOk result ((r : Rank) (calls : List Call) → r.rank ≡ rank → r.tag_ub ≡ tag_ub → length calls ≡ k → AreNumbered 64 (calls ++ call.now ∷ []) → AreBegun k begun.items (operations_at r calls call.now) → table.old.given ≤ length (operations_of r calls) → Holds r (calls ++ call.now ∷ []) (operations_of r calls) table.old → Holds r (calls ++ call.now ∷ []) (operations_of r (calls ++ call.now ∷ [])) table.new × (table.new.given ≡ table.old.given)) }
+    ensures needs { OnOk result ((r : Rank) (calls : List Call) → r.rank ≡ rank → r.tag_ub ≡ tag_ub → length calls ≡ k → AreBegun k begun.items (operations_at r calls call.now) → HaveNeeds r (calls ++ call.now ∷ []) (operations_of r calls) needs.old.items → HaveNeeds r (calls ++ call.now ∷ []) (operations_of r (calls ++ call.now ∷ [])) needs.new.items) }
+    ensures holds { OnOk result ((r : Rank) (calls : List Call) → r.rank ≡ rank → r.tag_ub ≡ tag_ub → length calls ≡ k → AreNumbered 64 (calls ++ call.now ∷ []) → AreBegun k begun.items (operations_at r calls call.now) → table.old.given ≤ length (operations_of r calls) → Holds r (calls ++ call.now ∷ []) (operations_of r calls) table.old → Holds r (calls ++ call.now ∷ []) (operations_of r (calls ++ call.now ∷ [])) table.new × (table.new.given ≡ table.old.given)) }
 {
     let mut begun = begun;
     begun.reverse();
     while let Some(one) = begun.pop() {
-        begin_one(table, rank, tag_ub, k, call, one)?;
+        begin_one(table, needs, rank, tag_ub, k, call, one)?;
     }
     Ok(())
 }
@@ -199,20 +219,22 @@ pub fn begin(
 pub fn take_call(
     alloc: Global,
     table: &mut Table,
+    needs: &mut Vec<Need>,
     at: Place,
     tag_ub: i32,
     call: &Call,
     begun: Vec<Begun>,
     rows: &mut Findings,
 ) -> Result<(), NoMemory>
-    ensures { OnOk result ((r : Rank) (calls : List Call) → r.rank ≡ at.rank → r.tag_ub ≡ tag_ub → length calls ≡ at.call → AreNumbered 64 (calls ++ call.now ∷ []) → AreBegun at.call begun.items (operations_at r calls call.now) → Holds r calls (operations_of r calls) table.old → Takes r calls call.now table.old table.new rows.old rows.new) }
+    ensures needs { OnOk result ((r : Rank) (calls : List Call) → r.rank ≡ at.rank → r.tag_ub ≡ tag_ub → length calls ≡ at.call → AreNumbered 64 (calls ++ call.now ∷ []) → AreBegun at.call begun.items (operations_at r calls call.now) → Holds r calls (operations_of r calls) table.old → HaveNeeds r calls (operations_of r calls) needs.old.items → HaveNeeds r (calls ++ call.now ∷ []) (operations_of r (calls ++ call.now ∷ [])) needs.new.items) }
+    ensures takes { OnOk result ((r : Rank) (calls : List Call) → r.rank ≡ at.rank → r.tag_ub ≡ tag_ub → length calls ≡ at.call → AreNumbered 64 (calls ++ call.now ∷ []) → AreBegun at.call begun.items (operations_at r calls call.now) → Holds r calls (operations_of r calls) table.old → Takes r calls call.now table.old table.new rows.old rows.new) }
 {
     let completions = completions(alloc, call)?;
     let told = judge_all(alloc, table, at, tag_ub, &completions, rows)?;
     let requests = completed(alloc, call)?;
-    end_completed(table, at.rank, at.call, &requests, &told)?;
-    end_freed(table, at.rank, freed(call))?;
+    end_completed(table, needs, at.rank, at.call, &requests, &told)?;
+    end_freed(table, needs, at.rank, freed(call))?;
     cancel_named(table, cancelled(call))?;
-    begin(table, at.rank, tag_ub, at.call, call, begun)?;
+    begin(table, needs, at.rank, tag_ub, at.call, call, begun)?;
     Ok(())
 }

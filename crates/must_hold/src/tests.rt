@@ -3,7 +3,7 @@
 ghost use Rattle.std.specs.Prelude.{◌≡◌, nat_eq, true};
 ghost use Rattle.std.specs.List.{IsDistinct};
 
-use crate::Messages;
+use crate::{Messages, Need};
 use must_base::NoMemory;
 use must_call::{ANY_SOURCE, Body, Call, Finish, HandleList, Point, Status3, StatusList};
 use must_entry::Entry;
@@ -110,7 +110,12 @@ impl Walk {
     }
 
     fn send(&mut self, rt: &impl Abort, tag: i32) -> Result<(), NoMemory> {
-        let begun = self.begun(rt, None, STANDARD, 1, tag)?;
+        self.send_as(rt, STANDARD, tag)
+    }
+
+    /// A send that is done in its call.
+    fn send_as(&mut self, rt: &impl Abort, deed: Deed, tag: i32) -> Result<(), NoMemory> {
+        let begun = self.begun(rt, None, deed, 1, tag)?;
         self.step(
             Body::Point(Point::Send {
                 buf: 4096,
@@ -201,6 +206,44 @@ impl Walk {
                 _ => assert!(rt; false),
             }
         }
+    }
+}
+
+/// Ends the calls, and compares what each operation needs, and the rules and calls of the rows.
+fn ends(
+    rt: &impl Abort,
+    walk: Walk,
+    needs: &[Need],
+    places: &[(Rule, u32)],
+) -> Result<(), NoMemory> {
+    let Walk {
+        messages,
+        entries,
+        rows,
+        ..
+    } = walk;
+    let mut entries = entries;
+    let mut rows = rows;
+    let found = messages.finish(&mut entries, &mut rows)?;
+    assert_eq!(rt; found.len(), needs.len());
+    for (found, want) in found.iter().zip(needs.iter()) {
+        assert!(rt; *found == *want);
+    }
+    assert_eq!(rt; rows.len(), places.len());
+    for (row, want) in rows.as_slice().iter().zip(places.iter()) {
+        assert!(rt; row.rule == want.0);
+        assert_eq!(rt; row.call, want.1);
+        assert_eq!(rt; row.part, 0);
+        assert_eq!(rt; row.value, 0);
+    }
+    Ok(())
+}
+
+fn partner(call: u32, standard: bool) -> Need {
+    Need::Partner {
+        call,
+        part: 0,
+        standard,
     }
 }
 
@@ -307,7 +350,8 @@ fn the_rest_is_given_in_the_end(rt: HostRuntime) -> Result<(), Fail> {
         rows,
     } = walk;
     let mut entries = entries;
-    messages.finish(&mut entries)?;
+    let mut rows = rows;
+    messages.finish(&mut entries, &mut rows)?;
     let walk = Walk {
         alloc,
         types,
@@ -317,5 +361,60 @@ fn the_rest_is_given_in_the_end(rt: HostRuntime) -> Result<(), Fail> {
         rows,
     };
     walk.expect(&rt, &[item_at(0, 0, 1, 3, None), item_at(1, 0, 1, 4, None)]);
+    Ok(())
+}
+
+/// One of them is open when the calls end, one is freed, and one is completed.
+#[test]
+fn open_wildcards(rt: HostRuntime) -> Result<(), Fail> {
+    let mut walk = Walk::new(&rt, rt.alloc())?;
+    walk.irecv(&rt, 64, ANY_SOURCE, 5)?;
+    walk.irecv(&rt, 65, ANY_SOURCE, 6)?;
+    walk.step(Body::Finish(Finish::RequestFree { request: 65 }), None)?;
+    walk.irecv(&rt, 66, ANY_SOURCE, 7)?;
+    walk.wait(66, status(1, 7, false))?;
+    assert_eq!(&rt; walk.messages.count(), 3);
+    assert_eq!(&rt; walk.messages.under_way(64), Some(0));
+    assert_eq!(&rt; walk.messages.under_way(66), None);
+    let needs = [
+        Need::Unmet { call: 0, part: 0 },
+        Need::Unmet { call: 1, part: 0 },
+        partner(3, false),
+    ];
+    ends(&rt, walk, &needs, &[(Rule::N1, 0), (Rule::N1, 1)])?;
+    Ok(())
+}
+
+/// Sends need their partner by their mode, a cancelled one nothing, and a receive that named its source its partner.
+#[test]
+fn needs_of_operations(rt: HostRuntime) -> Result<(), Fail> {
+    let mut walk = Walk::new(&rt, rt.alloc())?;
+    walk.send(&rt, 3)?;
+    walk.send_as(
+        &rt,
+        Deed::Send {
+            mode: Mode::Buffered,
+        },
+        3,
+    )?;
+    walk.send_as(
+        &rt,
+        Deed::Send {
+            mode: Mode::Synchronous,
+        },
+        3,
+    )?;
+    walk.isend(&rt, 64, 3)?;
+    walk.step(Body::Finish(Finish::Cancel { request: 64 }), None)?;
+    walk.wait(64, status(0, 0, true))?;
+    walk.irecv(&rt, 65, 1, 4)?;
+    let needs = [
+        partner(0, true),
+        Need::Nothing,
+        partner(2, false),
+        Need::Nothing,
+        partner(6, false),
+    ];
+    ends(&rt, walk, &needs, &[])?;
     Ok(())
 }

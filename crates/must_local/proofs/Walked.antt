@@ -15,7 +15,7 @@ use Rattle.must_call.specs.declared.class.Class.{Class}
 use Rattle.must_call.specs.declared.class.Class.TheVariants.{Comm, Group, Datatype, Operation, Request}
 use Rattle.must_call.specs.declared.call.Call.{Call}
 use Rattle.must_find.specs.declared.rule.Rule.{Rule}
-use Rattle.must_find.specs.declared.rule.Rule.TheVariants.{I1, I2, I3, A1, A2, A3, A4, A5, A6, A7, H1, H2, H3, H4, H5, T1, T2, T3, S1, C6, L1, L2, L3, L4, L5}
+use Rattle.must_find.specs.declared.rule.Rule.TheVariants.{I1, I2, I3, A1, A2, A3, A4, A5, A6, A7, H1, H2, H3, H4, H5, T1, T2, T3, S1, N1, C6, L1, L2, L3, L4, L5}
 use Rattle.must_find.specs.declared.finding.Finding.{Finding}
 use Rattle.must_base.specs.Listing.{Has, Rises}
 use Rattle.must_find.specs.Order.{by_all}
@@ -60,16 +60,16 @@ use Rattle.must_entry.specs.Entries as entries
 use Rattle.must_coll.specs.declared.item.WaveItem.{WaveItem}
 use Rattle.must_items.specs.CollectiveLists.{IsGivenBy, AreItemsOf}
 use Rattle.must_items.specs.ListLaws.{items_more}
-use Rattle.must_local.specs.Adding.{IsOfRule, FrameRows, ArgumentRows, OperationRows, StatusRows, ClassRows, LeakRows, LeakRowsAt, LateRows, RowsBeside, HasRowsBeside, RowsAt, RowsAtEnd}
+use Rattle.must_local.specs.Adding.{IsOfRule, FrameRows, ArgumentRows, OperationRows, StatusRows, ClassRows, LeakRows, LeakRowsAt, LateRows, RowsBeside, HasRowsBeside, RowsAt, MissingRows, HasMissing, RowsAtEnd}
 use Rattle.must_local.specs.declared.handles.Handles.{Handles}
 use Rattle.must_local.specs.declared.traffic.Traffic.{Traffic}
-use Rattle.must_local.specs.TrafficStands.{TrafficStands}
+use Rattle.must_local.specs.TrafficStands.{TrafficStands, EndGives, GivesEnd}
 use Rattle.must_local.specs.Walks.{WalkState, rank_by, Knows, Walks, GivesAll, IsMiddle, all_rows, collectives, message_items, call_needs, RankTold}
 use Rattle.must_local.proofs.Gathered.{behind_others, adds_then}
 use Rattle.must_local.proofs.Numbering.{numbered_more}
 use Rattle.must_handle.specs.Changes.{IsNext}
 use Rattle.must_rules.specs.Statuses.{status_contradicts}
-use Rattle.must_hold.specs.Keeping.{Gives, GivesMore, GivesRest, GivesLast}
+use Rattle.must_hold.specs.Keeping.{Gives, GivesMore, IsOpenWildcard}
 use Rattle.must_messages.specs.MessageItems.{Item, item_seen, items_of}
 use Rattle.must_messages.specs.Holding.{items_given}
 use Rattle.must_p2p.specs.declared.item.MsgItem.{MsgItem}
@@ -448,25 +448,36 @@ ended : (b : Bool) (answer : Option Answer) (part : ℕ) (a : Answer) {P : Type 
 ended true answer part a e f = f refl e
 ended false answer part a e f = no_answer a e
 
-whole_by : (r : Rank) (calls : List Call) (f : Finding) (rule : Rule) → f.rule ≡ rule → f.rank ≡ r.rank → finding_whole r calls f.call rule f.part ≡ Some (f.see, f.value)
-    → IsOfRule r.rank (length calls) I3 (at_part 0 (missing (ends_returned calls) (first_finalize calls))) f
-unfolding no_finalize
-whole_by r calls f I3 e a d = ended (f.call == length calls) (missing (ends_returned calls) (first_finalize calls)) f.part (f.see, f.value) d
-    (λ same gives. record { rank_is = a; call_is = eqb-true f.call (length calls) same; rule_is = e; gives = gives })
-whole_by r calls f _ e a d = no_answer (f.see, f.value) d
+missing_by : (r : Rank) (calls : List Call) (f : Finding) (rule : Rule) → f.rule ≡ rule → f.rank ≡ r.rank → finding_whole r calls f.call rule f.part ≡ Some (f.see, f.value) → MissingRows r calls f ⊎ IsOpenWildcard r calls f
+missing_by r calls f I3 e a d = inl (ended (f.call == length calls) (no_finalize calls) f.part (f.see, f.value) d (λ same gives. record { rank_is = a; call_is = eqb-true f.call (length calls) same; rule_is = e; gives = gives }))
+missing_by r calls f N1 e a d = inr (record { rank_is = a; rule_is = e; gives = d })
+missing_by r calls f _ e a d = no_answer (f.see, f.value) d
 
-whole_from : (r : Rank) (calls : List Call) (f : Finding) → IsOfRule r.rank (length calls) I3 (at_part 0 (missing (ends_returned calls) (first_finalize calls))) f → IsWhole r calls f
-unfolding no_finalize
-whole_from r calls f is = record {
+missing_whole : (r : Rank) (calls : List Call) (f : Finding) → MissingRows r calls f → IsWhole r calls f
+missing_whole r calls f is = record {
   rank_is = is.rank_is;
   gives =
       ap (λ (x : Rule). finding_whole r calls f.call x f.part) is.rule_is
-      ∙ ap (λ (b : Bool). cond b (at_part 0 (missing (ends_returned calls) (first_finalize calls)) f.part) None) (eq-eqb f.call (length calls) is.call_is)
+      ∙ ap (λ (b : Bool). cond b (at_part 0 (no_finalize calls) f.part) None) (eq-eqb f.call (length calls) is.call_is)
       ∙ is.gives;
 }
 
-pub end_seen : (version : ℕ) (w x : WalkState) → w ≡ x → (calls : List Call) (z a : List Finding) → z ≡ [] → Knows version x calls → Adds z a (IsOfRule (rank_by version w.rank).rank w.number I3 (at_part 0 (missing w.returned w.finalize))) → Rises by_all a → RowsAtEnd (rank_by version x.rank) calls a
-end_seen version w x e calls z a none knows adds rises =
+wildcard_whole : (r : Rank) (calls : List Call) (f : Finding) → IsOpenWildcard r calls f → IsWhole r calls f
+wildcard_whole r calls f is = record { rank_is = is.rank_is; gives = ap (λ (x : Rule). finding_whole r calls f.call x f.part) is.rule_is ∙ is.gives }
+
+-- the rows of all calls are that of a missing Finalize and those of open wildcards
+pub end_rows : (r : Rank) (calls : List Call) (a b : List Finding) → HasMissing r calls a → Adds a b (IsOpenWildcard r calls) → Rises by_all b → RowsAtEnd r calls b
+end_rows r calls a b missing adds rises = record {
+  rises = rises;
+  exact = λ f. (
+    λ h. elim ((adds f).0 h) [ inl there ↦ missing_whole r calls f ((missing.exact f).0 there) | inr is ↦ wildcard_whole r calls f is ],
+    λ is. elim (missing_by r calls f f.rule refl is.rank_is is.gives) [ inl there ↦ (adds f).1 (inl ((missing.exact f).1 there)) | inr there ↦ (adds f).1 (inr there) ],
+  );
+}
+
+pub end_seen : (version : ℕ) (w x : WalkState) → w ≡ x → (calls : List Call) (z a : List Finding) → z ≡ [] → Knows version x calls → Adds z a (IsOfRule (rank_by version w.rank).rank w.number I3 (at_part 0 (missing w.returned w.finalize))) → HasMissing (rank_by version x.rank) calls a
+unfolding no_finalize
+end_seen version w x e calls z a none knows adds =
     let k : Knows version w calls = subst (λ (v : WalkState). Knows version v calls) (sym e) knows in
     let r = rank_by version w.rank in
     let all : Adds [] a (IsOfRule r.rank (length calls) I3 (at_part 0 (missing (ends_returned calls) (first_finalize calls)))) =
@@ -474,21 +485,28 @@ end_seen version w x e calls z a none knows adds rises =
     (subst (λ (m : ℕ). Adds z a (IsOfRule r.rank m I3 (at_part 0 (missing (ends_returned calls) (first_finalize calls))))) k.number
     (subst (λ (o : Option ℕ). Adds z a (IsOfRule r.rank w.number I3 (at_part 0 (missing (ends_returned calls) o)))) k.finalize
     (subst (λ (b : Bool). Adds z a (IsOfRule r.rank w.number I3 (at_part 0 (missing b w.finalize)))) k.returned adds))) in
-    subst (λ (v : WalkState). RowsAtEnd (rank_by version v.rank) calls a) e (record {
-      rises = rises;
+    subst (λ (v : WalkState). HasMissing (rank_by version v.rank) calls a) e (record {
       exact = λ f. (
-        λ h. elim ((all f).0 h) [ inl there ↦ absurd there | inr is ↦ whole_from r calls f is ],
-        λ is. (all f).1 (inr (whole_by r calls f f.rule refl is.rank_is is.gives)),
+        λ h. elim ((all f).0 h) [ inl there ↦ absurd there | inr is ↦ is ],
+        λ is. (all f).1 (inr is),
       );
     })
 
 -- what is given at the end
-pub rest_seen : (version : ℕ) (w x : WalkState) → w ≡ x → (calls : List Call) (old new : List Entry) → Knows version x calls → ((r : Rank) (cs : List Call) → TrafficStands r cs w.traffic → GivesLast r cs old new) → GivesLast (rank_by version x.rank) calls old new
-rest_seen version w x e calls old new knows gives =
+pub rest_seen : (version : ℕ) (w x : WalkState) → w ≡ x → (calls : List Call) (rank : ℕ) (old new : List Entry) → Knows version x calls → rank ≡ w.rank.rank
+    → ((r : Rank) (cs : List Call) → r.rank ≡ rank → AreNumbered 64 cs → TrafficStands r cs w.traffic → GivesEnd r cs old new) → GivesEnd (rank_by version x.rank) calls old new
+rest_seen version w x e calls rank old new knows is gives =
     let k : Knows version w calls = subst (λ (v : WalkState). Knows version v calls) (sym e) knows in
-    subst (λ (v : WalkState). GivesLast (rank_by version v.rank) calls old new) e (gives (rank_by version w.rank) calls k.traffic)
+    subst (λ (v : WalkState). GivesEnd (rank_by version v.rank) calls old new) e (gives (rank_by version w.rank) calls (sym is) k.numbered k.traffic)
 
-pub walks_end : (version : ℕ) (w : WalkState) (calls : List Call) (given : List Batch) (batch : Batch) (rows : List Finding) (more : List Entry) → RowsAtEnd (rank_by version w.rank) calls rows → GivesRest (rank_by version w.rank) calls more → batch.entries ≡ more ++ map Row rows
+-- the rows of open wildcards
+pub wildcards_seen : (version : ℕ) (w x : WalkState) → w ≡ x → (calls : List Call) (a b : List Finding) → Knows version x calls
+    → ((r : Rank) (cs : List Call) → AreNumbered 64 cs → TrafficStands r cs w.traffic → Adds a b (IsOpenWildcard r cs)) → Adds a b (IsOpenWildcard (rank_by version x.rank) calls)
+wildcards_seen version w x e calls a b knows adds =
+    let k : Knows version w calls = subst (λ (v : WalkState). Knows version v calls) (sym e) knows in
+    subst (λ (v : WalkState). Adds a b (IsOpenWildcard (rank_by version v.rank) calls)) e (adds (rank_by version w.rank) calls k.numbered k.traffic)
+
+pub walks_end : (version : ℕ) (w : WalkState) (calls : List Call) (given : List Batch) (batch : Batch) (rows : List Finding) (more : List Entry) → RowsAtEnd (rank_by version w.rank) calls rows → EndGives (rank_by version w.rank) calls more → batch.entries ≡ more ++ map Row rows
     → batch.rank ≡ (rank_by version w.rank).rank → batch.last ≡ true → Walks version w calls given → GivesAll (rank_by version w.rank) calls (given ++ batch ∷ [])
 walks_end version w calls given batch rows more at gives entries_are rank_is ends walks =
     let r = rank_by version w.rank in
@@ -511,7 +529,7 @@ walks_end version w calls given batch rows more at gives entries_are rank_is end
       rows = here.rows;
       waves = subst (AreItemsOf r calls) (sym given_are) walks.waves;
       messages = sent;
-      needs = needs_more given batch ∙ ap (λ (l : List Waits). l ++ entries.needs es) walks.needs ∙ ap entries.needs all_entries ∙ parts.needs_are ∙ gives.wants;
+      needs = needs_more given batch ∙ ap (λ (l : List Waits). l ++ entries.needs es) walks.needs ∙ ap entries.needs all_entries ∙ parts.needs_are ∙ gives.needs_are;
       middle = given;
       last = batch;
       batches_are = refl;

@@ -6,7 +6,7 @@ use Rattle.must_call.specs.declared.life.Life.{Life}
 use Rattle.must_call.specs.declared.life.Life.TheVariants.{Live}
 use Rattle.must_call.specs.declared.call.Call.{Call}
 use Rattle.must_find.specs.declared.rule.Rule.{Rule}
-use Rattle.must_find.specs.declared.rule.Rule.TheVariants.{I1, I2, S1, C6, L1, L2, L3, L4, L5}
+use Rattle.must_find.specs.declared.rule.Rule.TheVariants.{I1, I2, I3, S1, C6, L1, L2, L3, L4, L5}
 use Rattle.must_find.specs.declared.finding.Finding.{Finding}
 use Rattle.must_base.specs.Listing.{Has, Rises}
 use Rattle.must_find.specs.Order.{by_all}
@@ -17,7 +17,7 @@ use Rattle.must_rules.specs.Statuses.{status_contradicts}
 use Rattle.must_rules.specs.Breaches.{IsBreach}
 use Rattle.must_parts.specs.Rows.{BufferRows}
 use Rattle.must_rules.specs.WrongLaws.{place_behind}
-use Rattle.must_rules.specs.Frames.{is_init, first_init, first_finalize, init_answer, seeing}
+use Rattle.must_rules.specs.Frames.{is_init, first_init, first_finalize, init_answer, seeing, no_finalize}
 use Rattle.must_rules.specs.Lives.{open_handles}
 use Rattle.must_rules.specs.Leaks.{leak, ends_rank}
 
@@ -84,7 +84,14 @@ pub record RowsAt (r : Rank) (calls : List Call) (call : Call) (rows : List Find
   pub rises : Rises by_all rows
   pub exact : (f : Finding) → Has rows f ↔ IsBehind r calls call f
 
--- the rows at the end of the calls, in order
+-- I3
+abbrev pub MissingRows : Rank → List Call → Finding → Type 0
+MissingRows r calls f = IsOfRule r.rank (length calls) I3 (at_part 0 (no_finalize calls)) f
+
+pub record HasMissing (r : Rank) (calls : List Call) (rows : List Finding) : Type 0 where
+  pub exact : (f : Finding) → Has rows f ↔ MissingRows r calls f
+
+-- the rows that all calls give at the end, in order
 pub record RowsAtEnd (r : Rank) (calls : List Call) (rows : List Finding) : Type 0 where
   pub rises : Rises by_all rows
   pub exact : (f : Finding) → Has rows f ↔ IsWhole r calls f

@@ -28,6 +28,7 @@ use Rattle.must_coll.specs.declared.item.WaveItem.{WaveItem}
 use Rattle.must_items.specs.CollectiveLists.{AreItemsOf}
 use Rattle.must_messages.specs.MessageItems.{item_seen, AreMessagesOf}
 use Rattle.must_messages.specs.Holding.{items_given}
+use Rattle.must_messages.specs.CallNeeds.{needs_of}
 
 -- what a walk is told of its rank: its number, the number of ranks, and the greatest tag
 pub record RankTold : Type 0 where
@@ -91,7 +92,7 @@ pub record IsMiddle (rank : ℕ) (b : Batch) : Type 0 where
   pub rank_is : b.rank ≡ rank
   pub goes_on : b.last ≡ false
 
--- the walk has taken these calls, which reach no limit, and given these batches; they have no needs so far
+-- the walk has taken these calls, which reach no limit, and given these batches; needs are given when the calls end
 pub record Walks (version : ℕ) (w : WalkState) (calls : List Call) (given : List Batch) : Type 0 where
   pub knows : Knows version w calls
   pub once : AreDistinct (all_rows given)
@@ -104,13 +105,13 @@ pub record Walks (version : ℕ) (w : WalkState) (calls : List Call) (given : Li
   pub within : IsWithin (rank_by version w.rank) calls
 
 -- these batches are all that the calls of a rank give: each local row once, what each collective call gives to its wave, the
--- messages, and no needs so far; the last batch alone is the last
+-- messages, and what each call waits for; the last batch alone is the last
 pub record GivesAll (r : Rank) (calls : List Call) (batches : List Batch) : Type 0 where
   pub once : AreDistinct (all_rows batches)
   pub rows : (f : Finding) → Has (all_rows batches) f ↔ IsLocal r calls f
   pub waves : AreItemsOf r calls (collectives batches)
   pub messages : AreMessagesOf r calls (message_items batches)
-  pub needs : call_needs batches ≡ []
+  pub needs : call_needs batches ≡ needs_of r calls
   pub middle : List Batch
   pub last : Batch
   pub batches_are : batches ≡ middle ++ last ∷ []

@@ -1,4 +1,4 @@
-//! What the calls of a rank give to the matching of messages.
+//! What the calls of a rank give to the matching of messages and to the replay.
 
 ghost use Rattle.std.specs.Prelude.{◌≡◌, ◌++◌, ◌∷◌, [], List, length, IfOk, OnOk};
 ghost use Rattle.must_call.specs.declared.call.Call.{Call};
@@ -11,10 +11,10 @@ ghost use Rattle.must_rules.specs.Numbered.{AreNumbered};
 ghost use Rattle.must_rules.specs.UsableParts.{usable_parts};
 ghost use Rattle.must_rules.specs.Statuses.{status_contradicts};
 ghost use Rattle.must_begin.specs.Telling.{IsOn};
-ghost use Rattle.must_hold.specs.Keeping.{GivesMore, GivesLast};
+ghost use Rattle.must_hold.specs.Keeping.{GivesMore, IsOpenWildcard};
 ghost use Rattle.must_local.specs.Adding.{IsOfRule, own_answer};
 ghost use Rattle.must_local.specs.HandlesKnown.{facts_in, sound_in, HandlesStand};
-ghost use Rattle.must_local.specs.TrafficStands.{TrafficStands};
+ghost use Rattle.must_local.specs.TrafficStands.{TrafficStands, GivesEnd};
 
 use crate::derived::comm_named;
 use crate::handles::Handles;
@@ -26,13 +26,16 @@ use must_call::{Body, Call, Place};
 use must_entry::Entry;
 use must_find::{Findings, Rule};
 use must_hold::Messages;
+use must_messages::Begun;
+use must_needs::Needs;
 use std::alloc::Global;
 
-/// What a rank's persistent requests ask for, and its messages that can't be given yet.
+/// What a rank's persistent requests ask for, its messages that can't be given yet, and what its calls wait for.
 #[derive(Drop)]
 pub struct Traffic {
     requests: Requests,
     messages: Messages,
+    needs: Needs,
 }
 
 /// The communicator that a call names, which is live and has a name.
@@ -43,6 +46,13 @@ fn named_by<'a>(handles: &'a Handles, body: &Body) -> Option<Named<'a>>
         Some(comm) => handles.named(comm),
         None => None,
     }
+}
+
+/// How many operations a call begins.
+fn count_of(begun: &[Begun]) -> usize
+    ensures { result ≡ length begun.now }
+{
+    begun.len()
 }
 
 /// Adds the row of a status that contradicts what its own call asks for.
@@ -61,8 +71,13 @@ impl Traffic {
         ensures { IfOk result (λ traffic. (r : Rank) → r.rank ≡ rank → r.tag_ub ≡ tag_ub → TrafficStands r [] traffic) }
     {
         let messages = Messages::new(alloc, rank, tag_ub)?;
+        let needs = Needs::new(alloc)?;
         let requests = Requests::new(alloc);
-        Ok(Traffic { requests, messages })
+        Ok(Traffic {
+            requests,
+            messages,
+            needs,
+        })
     }
 
     /// Takes the next call, puts the messages that can be given now behind `entries`, and adds the call's rows of S1.
@@ -90,21 +105,42 @@ impl Traffic {
             .requests
             .begins(alloc, handles, types, on, at, call, usable)?;
         let own = own_contradiction(alloc, handles, types, on, call, usable)?;
+        let count = count_of(&begun);
+        let clear = usable.clear;
+        self.needs.step(
+            alloc,
+            handles,
+            types,
+            &self.messages,
+            at,
+            call,
+            clear,
+            count,
+        )?;
         self.messages.step(alloc, call, begun, entries, rows)?;
         add_own(rows, at, own_part(call), own)?;
         self.requests.take(alloc, handles, types, on, call, usable)?;
         Ok(())
     }
 
-    /// Ends the calls: all that is held back is put behind `entries`.
-    pub fn finish(self, entries: &mut Vec<Entry>) -> Result<(), NoMemory>
-        ensures { OnOk result ((r : Rank) (calls : List Call) → TrafficStands r calls self → GivesLast r calls entries.old.items entries.new.items) }
+    /// Ends the calls: all messages that are held back, and what each call waits for, are put behind `entries`; the rows of N1 are added
+    /// to `rows`.
+    pub fn finish(
+        self,
+        rank: u32,
+        entries: &mut Vec<Entry>,
+        rows: &mut Findings,
+    ) -> Result<(), NoMemory>
+        ensures gives { OnOk result ((r : Rank) (calls : List Call) → r.rank ≡ rank → AreNumbered 64 calls → TrafficStands r calls self → GivesEnd r calls entries.old.items entries.new.items) }
+        ensures rows { OnOk result ((r : Rank) (calls : List Call) → AreNumbered 64 calls → TrafficStands r calls self → Adds rows.old rows.new (IsOpenWildcard r calls)) }
     {
         let Traffic {
             requests: _,
             messages,
+            needs,
         } = self;
-        messages.finish(entries)?;
+        let outcomes = messages.finish(entries, rows)?;
+        needs.finish(rank, &outcomes, entries)?;
         Ok(())
     }
 }

@@ -15,7 +15,7 @@ ghost use Rattle.must_local.specs.HandlesKnown.{IsLimitAt, facts_in, sound_in};
 ghost use Rattle.must_entry.specs.declared.batch.Batch.{Batch};
 ghost use Rattle.must_rules.specs.Search.{or_then, only_if};
 ghost use Rattle.must_hold.specs.Keeping.{GivesMore};
-ghost use Rattle.must_local.specs.Adding.{LateRows, HasRowsBeside, RowsAtEnd};
+ghost use Rattle.must_local.specs.Adding.{LateRows, HasRowsBeside, HasMissing};
 ghost use Rattle.must_find.specs.Adds.{Adds};
 ghost use Rattle.must_rules.specs.UsableParts.{usable_parts};
 ghost use Rattle.must_local.specs.Walks.{rank_by, MayStep, Knows, Walks, GivesAll};
@@ -57,11 +57,11 @@ impl Model for RankWalk {
     ghost use Rattle.must_local.specs.Walks.{WalkState};
     ghost use Rattle.std.specs.Coded.{codes};
     ghost use Rattle.must_type.specs.TreeCode.{tree_code};
-    ghost use Rattle.must_local.specs.Codes.{buffers_code, requests_code, messages_code};
+    ghost use Rattle.must_local.specs.Codes.{buffers_code, requests_code, messages_code, needs_code};
 
     ghost Value = { WalkState };
 
-    ghost coded = { Prim.hlevel (codes, tree_code, buffers_code, requests_code, messages_code) };
+    ghost coded = { Prim.hlevel (codes, tree_code, buffers_code, requests_code, messages_code, needs_code) };
 
     ghost view = { λ w. record { rank = record { rank = w.handles.rank; size = w.size; tag_ub = w.handles.tag_ub }; number = w.number; init = w.init; finalize = w.finalize; returned = w.returned; handles = w.handles; buffers = w.buffers; traffic = w.traffic } };
 }
@@ -236,9 +236,9 @@ impl RankWalk {
         })
     }
 
-    /// The rows that stand at the end of the calls.
+    /// The row of a missing Finalize, where there is none.
     fn last_rows(&self) -> Result<Findings, NoMemory>
-        ensures { (version : ℕ) (calls : List Call) → Knows version self.now calls → IfOk result (λ rows. RowsAtEnd (rank_by version self.now.rank) calls rows) }
+        ensures { (version : ℕ) (calls : List Call) → Knows version self.now calls → IfOk result (λ rows. HasMissing (rank_by version self.now.rank) calls rows) }
     {
         let mut rows = Findings::new(self.alloc);
         let at = Place {
@@ -246,7 +246,6 @@ impl RankWalk {
             call: self.number,
         };
         add_missing(&mut rows, at, self.returned, self.finalize)?;
-        let _ = rows.as_slice();
         Ok(rows)
     }
 
@@ -254,7 +253,7 @@ impl RankWalk {
     pub fn finish(self) -> Result<Batch, NoMemory>
         ensures { IfOk result (λ batch. (version : ℕ) (calls : List Call) (given : List Batch) → Walks version self calls given → GivesAll (rank_by version self.rank) calls (given ++ batch ∷ [])) }
     {
-        let rows = self.last_rows()?;
+        let mut rows = self.last_rows()?;
         let alloc = self.alloc;
         let rank = self.handles.rank;
         let mut entries = Vec::new(alloc);
@@ -269,7 +268,7 @@ impl RankWalk {
             buffers: _,
             traffic,
         } = self;
-        traffic.finish(&mut entries)?;
+        traffic.finish(rank, &mut entries, &mut rows)?;
         let entries = with_rows(entries, rows.as_slice())?;
         Ok(Batch {
             rank,

@@ -14,7 +14,7 @@ pub enum Sends {
 pub struct Plan {
     /// How many children a node of a tree has, 2 to 64. An analysis on one thread makes no tree.
     pub fan_in: u8,
-    /// How standard sends are taken. No rule so far asks.
+    /// How standard sends are taken in the replay.
     pub sends: Sends,
     /// The severity of each rule. Every rule is judged, whatever its severity: the report leaves out those that are off.
     pub rules: RuleSet,

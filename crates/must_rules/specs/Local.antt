@@ -3,7 +3,7 @@ use Rattle.std.specs.Prelude.{◌≡◌, ℕ, ◌==◌, if◌then◌else◌, Lis
 use Rattle.must_call.specs.declared.class.Class.TheVariants.{Comm, Group, Datatype, Operation, Request}
 use Rattle.must_call.specs.declared.call.Call.{Call}
 use Rattle.must_find.specs.declared.rule.Rule.{Rule}
-use Rattle.must_find.specs.declared.rule.Rule.TheVariants.{I1, I2, I3, A1, A2, A3, A4, A5, A6, A7, H1, H2, H3, H4, H5, T1, T2, T3, S1, C6, L1, L2, L3, L4, L5}
+use Rattle.must_find.specs.declared.rule.Rule.TheVariants.{I1, I2, I3, A1, A2, A3, A4, A5, A6, A7, H1, H2, H3, H4, H5, T1, T2, T3, S1, N1, C6, L1, L2, L3, L4, L5}
 use Rattle.must_find.specs.declared.finding.Finding.{Finding}
 use Rattle.must_rules.specs.Answer.{Answer, at_part}
 use Rattle.must_rules.specs.Rank.{Rank}
@@ -15,7 +15,7 @@ use Rattle.must_rules.specs.Types.{sound_type}
 use Rattle.must_rules.specs.Reductions.{wrong_operation}
 use Rattle.must_rules.specs.Overlaps.{overlap_within, overlap_between}
 use Rattle.must_rules.specs.PendingOperations.{parts_behind, pending_clash}
-use Rattle.must_rules.specs.Statuses.{status_contradicts}
+use Rattle.must_rules.specs.Statuses.{status_contradicts, open_wildcard}
 use Rattle.must_rules.specs.Frames.{outside_init, after_finalize, no_finalize}
 use Rattle.must_rules.specs.Leaks.{not_freed}
 
@@ -61,6 +61,7 @@ finding_behind r earlier call rule part = None
 -- what a rule finds at call k by looking at all calls of its rank; k may be one past the last
 abbrev pub finding_whole : Rank → (calls : List Call) → (k : ℕ) → Rule → (part : ℕ) → Option Answer
 finding_whole r calls k I3 part = if k == length calls then at_part 0 (no_finalize calls) part else None
+finding_whole r calls k N1 part = open_wildcard r calls k part
 finding_whole r calls k rule part = None
 
 abbrev pub finding_here : Rank → List Call → Option Call → Rule → ℕ → Option Answer

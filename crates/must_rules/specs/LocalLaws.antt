@@ -6,7 +6,7 @@ use Rattle.std.proofs.lemmas.List.{take-append-le, take_at}
 use Rattle.std.proofs.lemmas.Option.{slice_get_past}
 use Rattle.must_call.specs.declared.call.Call.{Call}
 use Rattle.must_find.specs.declared.rule.Rule.{Rule}
-use Rattle.must_find.specs.declared.rule.Rule.TheVariants.{I3}
+use Rattle.must_find.specs.declared.rule.Rule.TheVariants.{I3, N1}
 use Rattle.must_find.specs.declared.finding.Finding.{Finding}
 use Rattle.must_rules.specs.Answer.{Answer}
 use Rattle.must_rules.specs.Rank.{Rank}
@@ -70,6 +70,8 @@ here_none r f is = let h = here_within r [] f is in omega (arith, h)
 apart : (r : Rank) (calls : List Call) (k : ℕ) (rule : Rule) (part : ℕ) (a : Answer) (earlier : List Call) (o : Option Call) → finding_whole r calls k rule part ≡ Some a → finding_here r earlier o rule part ≡ None
 apart r calls k I3 part a earlier None e = refl
 apart r calls k I3 part a earlier (Some call) e = refl
+apart r calls k N1 part a earlier None e = refl
+apart r calls k N1 part a earlier (Some call) e = refl
 apart r calls k _ part a earlier o e = no_answer a e
 
 -- no finding is of both kinds

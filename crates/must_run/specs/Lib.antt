@@ -1,7 +1,8 @@
 pub mod RunWaves
 pub mod RunMessages
-pub mod RunRows
+pub mod RunGiven
 pub mod RunWaits
+pub mod RunRows
 pub mod WaveLists
 pub mod MessageLists
 pub mod ItemPlaces

@@ -1,5 +1,5 @@
 -- A run has one list of rows: what its ranks give is one list each up to the forms of signatures, on which no row depends.
-use Rattle.std.proofs.Common.{◌≡◌, ℕ, suc, List, [], ◌∷◌, ◌++◌, map, refl, sym, ap, ap₂, ◌∙◌, inl, inr}
+use Rattle.std.proofs.Common.{◌≡◌, ℕ, suc, List, [], ◌∷◌, ◌++◌, map, refl, sym, ap, ap₂, subst, ◌∙◌, inl, inr}
 use Rattle.std.proofs.lemmas.List.{map-append}
 use Rattle.must_base.specs.Listing.{Lists}
 use Rattle.must_base.specs.ListingLaws.{lists_one}
@@ -12,14 +12,17 @@ use Rattle.must_coll.specs.Plain.{plain}
 use Rattle.must_coll.specs.PlainLaws.{rows_alike}
 use Rattle.must_node.specs.declared.fact.Fact.{Fact}
 use Rattle.must_node.specs.Facts.{call_fact}
+use Rattle.must_wait.specs.Needs.{Rows}
 use Rattle.must_node.specs.RunNeeds.{run_needs}
+use Rattle.must_node.specs.Waits.{IsWaitRow}
 use Rattle.must_messages.specs.MessageItems.{item_seen}
 use Rattle.must_rules.specs.Run.{Run, Mode, Recorded, size_of}
 use Rattle.must_rules.specs.RunRows.{rank_in}
 use Rattle.must_items.specs.OneList.{rows_one}
 use Rattle.must_run.specs.RunWaves.{AreItemsFrom}
 use Rattle.must_run.specs.RunMessages.{needs_in}
-use Rattle.must_run.specs.RunRows.{Given, IsGivenBy, IsRunRow, AreRunRows}
+use Rattle.must_run.specs.RunGiven.{Given, IsGivenBy}
+use Rattle.must_run.specs.RunRows.{IsRunRow, AreRunRows}
 use Rattle.must_run.specs.RunWaits.{need_fact, facts_with, is_strict, waits_in}
 use Rattle.must_run.specs.PlainMessages.{message_rows_alike, facts_alike}
 
@@ -47,10 +50,19 @@ alike run given other p q = record { messages = p.messages ∙ sym q.messages; c
 turned : (given other : Given) → AreAlike given other → AreAlike other given
 turned given other a = record { messages = sym a.messages; calls = sym a.calls }
 
+waits_same : (run : Run) (mode : Mode) (given other : Given) → AreAlike given other → waits_in run mode given ≡ waits_in run mode other
+waits_same run mode given other a =
+    let calls : map call_fact given.calls ≡ map call_fact other.calls = calls_plain given.calls ∙ ap (map call_fact) a.calls ∙ sym (calls_plain other.calls) in
+    let rest : map call_fact given.calls ++ map need_fact (needs_in run) ≡ map call_fact other.calls ++ map need_fact (needs_in run) = ap (λ (fs : List Fact). fs ++ map need_fact (needs_in run)) calls in
+    let facts : facts_with given.messages given.calls (needs_in run) ≡ facts_with other.messages other.calls (needs_in run) =
+    ap₂ (λ (fs gs : List Fact). fs ++ gs) (facts_alike given.messages other.messages a.messages) rest in
+    ap (λ (fs : List Fact). run_needs (is_strict mode) fs (size_of run)) facts
+
 moved : (run : Run) (mode : Mode) (given other : Given) (f : Finding) → AreAlike given other → IsRunRow run mode given f → IsRunRow run mode other f
 moved run mode given other f a (inl own) = inl own
 moved run mode given other f a (inr (inl row)) = inr (inl (message_rows_alike given.messages other.messages f a.messages row))
-moved run mode given other f a (inr (inr row)) = inr (inr (rows_alike given.calls other.calls f a.calls row))
+moved run mode given other f a (inr (inr (inl row))) = inr (inr (inl (rows_alike given.calls other.calls f a.calls row)))
+moved run mode given other f a (inr (inr (inr row))) = inr (inr (inr (subst (λ (rows : Rows). IsWaitRow rows f) (waits_same run mode given other a) row)))
 
 pub one_report : (run : Run) (mode : Mode) (rows others : List Finding) → AreRunRows run mode rows → AreRunRows run mode others → rows ≡ others
 one_report run mode rows others one other =
@@ -63,14 +75,6 @@ one_report run mode rows others one other =
       );
     } in
     lists_one by_place by_place_total (IsRunRow run mode one.given) rows others one.lists here
-
-waits_same : (run : Run) (mode : Mode) (given other : Given) → AreAlike given other → waits_in run mode given ≡ waits_in run mode other
-waits_same run mode given other a =
-    let calls : map call_fact given.calls ≡ map call_fact other.calls = calls_plain given.calls ∙ ap (map call_fact) a.calls ∙ sym (calls_plain other.calls) in
-    let rest : map call_fact given.calls ++ map need_fact (needs_in run) ≡ map call_fact other.calls ++ map need_fact (needs_in run) = ap (λ (fs : List Fact). fs ++ map need_fact (needs_in run)) calls in
-    let facts : facts_with given.messages given.calls (needs_in run) ≡ facts_with other.messages other.calls (needs_in run) =
-    ap₂ (λ (fs gs : List Fact). fs ++ gs) (facts_alike given.messages other.messages a.messages) rest in
-    ap (λ (fs : List Fact). run_needs (is_strict mode) fs (size_of run)) facts
 
 -- and what its calls wait for is one list too
 pub one_replay : (run : Run) (mode : Mode) (given other : Given) → IsGivenBy run given → IsGivenBy run other → waits_in run mode given ≡ waits_in run mode other

@@ -1,5 +1,5 @@
 -- A run has at most one row at a place.
-use Rattle.std.proofs.Common.{◌≡◌, ℕ, List, [], ◌∷◌, Option, Some, None, refl, sym, ap, subst, ◌∙◌, inl, inr}
+use Rattle.std.proofs.Common.{◌≡◌, ℕ, Bool, true, false, List, [], ◌∷◌, Option, Some, None, refl, sym, ap, subst, ◌∙◌, inl, inr}
 use Rattle.std.specs.declared.cmp.Ordering.{Ordering}
 use Rattle.std.specs.declared.cmp.Ordering.TheVariants.{Less, Equal, Greater}
 use Rattle.std.specs.Ordering.{int_cmp, ordering_then}
@@ -12,13 +12,19 @@ use Rattle.must_find.specs.declared.finding.Finding.{Finding}
 use Rattle.must_find.specs.Order.{by_place, by_spot, by_all}
 use Rattle.must_find.specs.OrderLaws.{SamePlace, place_same, finding_same, by_all_total}
 use Rattle.must_p2p.specs.Items.{Orderly}
+use Rattle.must_p2p.specs.Matching.{IsMessageRow}
 use Rattle.must_p2p.specs.PlaceLaws.{message_rows_one}
+use Rattle.must_coll.specs.Rows.{IsWaveRow}
+use Rattle.must_node.specs.Waits.{IsWaitRow}
 use Rattle.must_coll.specs.OneRowLaws.{ArePlacedOnce, HaveDistinctMembers, one_row}
 use Rattle.must_rules.specs.Answer.{Answer}
 use Rattle.must_rules.specs.Run.{Run, Mode}
 use Rattle.must_rules.specs.RunRows.{finding_at, IsFinding}
-use Rattle.must_run.specs.RunRows.{Given, IsRunRow}
-use Rattle.must_run.specs.RuleKinds.{RuleKind, OfRank, OfMessages, OfWaves, kind_of, finding_kind, message_kind, wave_kind}
+use Rattle.must_run.specs.RunGiven.{Given}
+use Rattle.must_run.specs.RunRows.{IsRunRow}
+use Rattle.must_run.specs.RunWaits.{waits_in}
+use Rattle.must_run.specs.WaitPlaces.{wait_rows_one}
+use Rattle.must_run.specs.RuleKinds.{RuleKind, OfRank, OfMessages, OfWaves, OfWaits, kind_of, finding_kind, message_kind, wave_kind, wait_kind}
 
 same_answer : (a b : Answer) → Some a ≡ Some b → a ≡ b
 same_answer a b e = cc
@@ -39,19 +45,56 @@ pub record AreOnce (given : Given) : Type 0 where
   pub members : HaveDistinctMembers given.calls
 
 -- rows of two kinds have two rules
-kinds : (f g : Finding) (a b : RuleKind) → kind_of f.rule ≡ a → kind_of g.rule ≡ b → f.rule ≡ g.rule → a ≡ b
-kinds f g a b p q same = sym p ∙ ap kind_of same ∙ q
+abbrev differ : RuleKind → RuleKind → Bool
+differ OfRank OfRank = false
+differ OfMessages OfMessages = false
+differ OfWaves OfWaves = false
+differ OfWaits OfWaits = false
+differ _ _ = true
+
+alone : (a : RuleKind) → differ a a ≡ false
+alone OfRank = refl
+alone OfMessages = refl
+alone OfWaves = refl
+alone OfWaits = refl
+
+apart : (f g : Finding) (a b : RuleKind) → differ a b ≡ true → kind_of f.rule ≡ a → kind_of g.rule ≡ b → f.rule ≡ g.rule → f ≡ g
+apart f g a b d p q same =
+    let one : a ≡ b = sym p ∙ ap kind_of same ∙ q in
+    absurd (let wrong : true ≡ false = sym d ∙ ap (differ a) (sym one) ∙ alone a in cc)
 
 pub row_one : (run : Run) (mode : Mode) (given : Given) (f g : Finding) → AreOnce given → SamePlace f g → IsRunRow run mode given f → IsRunRow run mode given g → f ≡ g
-row_one run mode given f g once s (inl p) (inl q) = finding_one run mode f g s p q
-row_one run mode given f g once s (inr (inl p)) (inr (inl q)) = message_rows_one given.messages f g once.messages p q (record { rank = s.rank; call = s.call; rule = s.rule; part = s.part })
-row_one run mode given f g once s (inr (inr p)) (inr (inr q)) = one_row given.calls f g once.placed once.members p q s.rank s.call s.rule
-row_one run mode given f g once s (inl p) (inr (inl q)) = absurd (let n : OfRank ≡ OfMessages = kinds f g OfRank OfMessages (finding_kind run mode f p) (message_kind given.messages g q) s.rule in cc)
-row_one run mode given f g once s (inl p) (inr (inr q)) = absurd (let n : OfRank ≡ OfWaves = kinds f g OfRank OfWaves (finding_kind run mode f p) (wave_kind given.calls g q) s.rule in cc)
-row_one run mode given f g once s (inr (inl p)) (inl q) = absurd (let n : OfMessages ≡ OfRank = kinds f g OfMessages OfRank (message_kind given.messages f p) (finding_kind run mode g q) s.rule in cc)
-row_one run mode given f g once s (inr (inl p)) (inr (inr q)) = absurd (let n : OfMessages ≡ OfWaves = kinds f g OfMessages OfWaves (message_kind given.messages f p) (wave_kind given.calls g q) s.rule in cc)
-row_one run mode given f g once s (inr (inr p)) (inl q) = absurd (let n : OfWaves ≡ OfRank = kinds f g OfWaves OfRank (wave_kind given.calls f p) (finding_kind run mode g q) s.rule in cc)
-row_one run mode given f g once s (inr (inr p)) (inr (inl q)) = absurd (let n : OfWaves ≡ OfMessages = kinds f g OfWaves OfMessages (wave_kind given.calls f p) (message_kind given.messages g q) s.rule in cc)
+row_one run mode given f g once s is also = at is also
+  where
+    of_rank : (h : Finding) → IsFinding run mode h → kind_of h.rule ≡ OfRank
+    of_rank h p = finding_kind run mode h p
+
+    of_messages : (h : Finding) → IsMessageRow given.messages h → kind_of h.rule ≡ OfMessages
+    of_messages h p = message_kind given.messages h p
+
+    of_waves : (h : Finding) → IsWaveRow given.calls h → kind_of h.rule ≡ OfWaves
+    of_waves h p = wave_kind given.calls h p
+
+    of_waits : (h : Finding) → IsWaitRow (waits_in run mode given) h → kind_of h.rule ≡ OfWaits
+    of_waits h p = wait_kind (waits_in run mode given) h p
+
+    at : IsRunRow run mode given f → IsRunRow run mode given g → f ≡ g
+    at (inl p) (inl q) = finding_one run mode f g s p q
+    at (inr (inl p)) (inr (inl q)) = message_rows_one given.messages f g once.messages p q (record { rank = s.rank; call = s.call; rule = s.rule; part = s.part })
+    at (inr (inr (inl p))) (inr (inr (inl q))) = one_row given.calls f g once.placed once.members p q s.rank s.call s.rule
+    at (inr (inr (inr p))) (inr (inr (inr q))) = wait_rows_one (waits_in run mode given) f g p q s.rank s.call
+    at (inl p) (inr (inl q)) = apart f g OfRank OfMessages refl (of_rank f p) (of_messages g q) s.rule
+    at (inl p) (inr (inr (inl q))) = apart f g OfRank OfWaves refl (of_rank f p) (of_waves g q) s.rule
+    at (inl p) (inr (inr (inr q))) = apart f g OfRank OfWaits refl (of_rank f p) (of_waits g q) s.rule
+    at (inr (inl p)) (inl q) = apart f g OfMessages OfRank refl (of_messages f p) (of_rank g q) s.rule
+    at (inr (inl p)) (inr (inr (inl q))) = apart f g OfMessages OfWaves refl (of_messages f p) (of_waves g q) s.rule
+    at (inr (inl p)) (inr (inr (inr q))) = apart f g OfMessages OfWaits refl (of_messages f p) (of_waits g q) s.rule
+    at (inr (inr (inl p))) (inl q) = apart f g OfWaves OfRank refl (of_waves f p) (of_rank g q) s.rule
+    at (inr (inr (inl p))) (inr (inl q)) = apart f g OfWaves OfMessages refl (of_waves f p) (of_messages g q) s.rule
+    at (inr (inr (inl p))) (inr (inr (inr q))) = apart f g OfWaves OfWaits refl (of_waves f p) (of_waits g q) s.rule
+    at (inr (inr (inr p))) (inl q) = apart f g OfWaits OfRank refl (of_waits f p) (of_rank g q) s.rule
+    at (inr (inr (inr p))) (inr (inl q)) = apart f g OfWaits OfMessages refl (of_waits f p) (of_messages g q) s.rule
+    at (inr (inr (inr p))) (inr (inr (inl q))) = apart f g OfWaits OfWaves refl (of_waits f p) (of_waves g q) s.rule
 
 -- ---- rows that rise by all rise by place
 

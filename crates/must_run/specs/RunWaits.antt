@@ -11,7 +11,7 @@ use Rattle.must_node.specs.Facts.{message_fact, call_fact}
 use Rattle.must_node.specs.RunNeeds.{run_needs}
 use Rattle.must_rules.specs.Run.{Run, Mode, Strict, Buffered, size_of}
 use Rattle.must_run.specs.RunMessages.{needs_in}
-use Rattle.must_run.specs.RunRows.{Given}
+use Rattle.must_run.specs.RunGiven.{Given}
 
 abbrev pub need_fact : Waits → Fact
 need_fact w = fact.Need w.place w.ways

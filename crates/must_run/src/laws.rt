@@ -16,8 +16,10 @@ ghost use Rattle.must_node.specs.Facts.{facts_of};
 ghost use Rattle.must_node.specs.Partners.{needs as fact_needs};
 ghost use Rattle.must_node.specs.Waits.{IsWaitRow};
 ghost use Rattle.must_messages.specs.MessageItems.{AreMessagesOf};
-ghost use Rattle.must_run.specs.RunMessages.{AreMessagesBelow, AreRunMessages};
-ghost use Rattle.must_run.specs.RunRows.{Given, IsGivenBy, AreRunRows};
+ghost use Rattle.must_messages.specs.CallNeeds.{needs_of};
+ghost use Rattle.must_run.specs.RunMessages.{AreMessagesBelow, AreRunMessages, needs_below, needs_in};
+ghost use Rattle.must_run.specs.RunGiven.{Given, IsGivenBy};
+ghost use Rattle.must_run.specs.RunRows.{AreRunRows};
 ghost use Rattle.must_run.specs.RunWaits.{facts_with, waits_in};
 
 /// The items of a run are those of its ranks, one behind the other.
@@ -32,6 +34,13 @@ pub fn messages_of_ranks()
     ensures first { (run : Run) → AreMessagesBelow run 0 [] }
     ensures more { (run : Run) (k : ℕ) (recorded : Recorded) (xs ys : List MsgItem) → slice_get run.ranks k ≡ Some recorded → AreMessagesBelow run k xs → AreMessagesOf (rank_in (size_of run) k recorded) recorded.calls ys → AreMessagesBelow run (k + 1) (xs ++ ys) }
     ensures all { (run : Run) (k : ℕ) (xs : List MsgItem) → length run.ranks ≤ k → AreMessagesBelow run k xs → AreRunMessages run xs }
+{}
+
+/// What the calls of a run wait for is what those of its ranks do, one behind the other.
+pub fn needs_of_ranks()
+    ensures first { (run : Run) → needs_below run 0 ≡ [] }
+    ensures more { (run : Run) (k : ℕ) (recorded : Recorded) (ws vs : List Waits) → slice_get run.ranks k ≡ Some recorded → ws ≡ needs_below run k → vs ≡ needs_of (rank_in (size_of run) k recorded) recorded.calls → ws ++ vs ≡ needs_below run (k + 1) }
+    ensures all { (run : Run) (k : ℕ) (ws : List Waits) → length run.ranks ≤ k → ws ≡ needs_below run k → ws ≡ needs_in run }
 {}
 
 /// A run has one list of rows at the most: two lists that are its rows are the same list.

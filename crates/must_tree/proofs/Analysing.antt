@@ -1,7 +1,7 @@
 -- One turn of the analysis, and its answers.
 use Rattle.std.proofs.Common.{◌≡◌, ℕ, zero, suc, ◌+◌, ◌<◌, ◌≤◌, List, [], ◌∷◌, ◌++◌, length, map, get_or, Option, Some, Err, refl, sym, ap, subst, ◌∙◌, inl, inr, arith, zero-add}
 use Rattle.std.proofs.Math.ListN.{set}
-use Rattle.std.specs.Prelude.{Bool, true, ◌↔◌, slice_get}
+use Rattle.std.specs.Prelude.{Bool, true, ◌⊎◌, ◌↔◌, slice_get}
 use Rattle.std.specs.Option.{option_map}
 use Rattle.std.specs.List.{AllByRecursion}
 use Rattle.std.proofs.lemmas.Bool.{cases_order}
@@ -35,6 +35,16 @@ use Rattle.must_node.specs.declared.closed.Closed.{Closed}
 use Rattle.must_node.specs.Nodes.{StandsFor}
 use Rattle.must_node.specs.Closing.{Settles}
 use Rattle.must_node.specs.EntryRows.{IsRow}
+use Rattle.must_find.specs.Rearranged.{Rearranges, from_equal, back}
+use Rattle.must_wait.specs.Needs.{Rows}
+use Rattle.must_node.specs.declared.fact.Fact.{Fact}
+use Rattle.must_node.specs.Facts.{facts_of}
+use Rattle.must_node.specs.Partners as partners
+use Rattle.must_node.specs.NeedLaws.{needs_told}
+use Rattle.must_node.specs.FreeLaws.{same_run}
+use Rattle.must_node.specs.RunNeeds.{run_needs}
+use Rattle.must_node.specs.Waits.{IsWaitRow}
+use Rattle.must_entry.specs.Entries.{Waits}
 use Rattle.must_p2p.specs.declared.item.MsgItem.{MsgItem}
 use Rattle.must_p2p.specs.Items as p2p
 use Rattle.must_node.specs.Inner.{inner}
@@ -47,19 +57,22 @@ use Rattle.must_rules.specs.RunRowLaws.{below_first, below_more}
 use Rattle.must_rules.specs.Streams.{recorded_of}
 use Rattle.must_rules.specs.StreamRuns.{AreComplete, run_of}
 use Rattle.must_run.specs.RunWaves.{AreItemsBelow}
-use Rattle.must_run.specs.RunMessages.{AreMessagesBelow}
-use Rattle.must_run.specs.RunRows.{Given, IsRunRow, AreRunRows}
-use Rattle.must_run.specs.MessageLists.{messages_first, messages_more, messages_all}
+use Rattle.must_run.specs.RunMessages.{AreMessagesBelow, needs_in}
+use Rattle.must_run.specs.RunGiven.{Given, IsGivenBy}
+use Rattle.must_run.specs.RunRows.{IsRunRow, AreRunRows}
+use Rattle.must_run.specs.RunWaits.{facts_with, is_strict, waits_in}
+use Rattle.must_run.specs.FactParts.{facts_apart, needs_with}
+use Rattle.must_run.specs.MessageLists.{messages_first, messages_more, messages_all, needs_more, needs_all}
 use Rattle.must_run.specs.RowPlaces.{AreOnce, row_one, rise_by_place}
 use Rattle.must_run.specs.WaveLists.{items_first, items_more, items_all}
 use Rattle.must_run.specs.RankLaws.{all_findings}
 use Rattle.must_local.specs.DistinctLaws.{has_append, has_front, has_behind}
-use Rattle.must_local.specs.Walks.{GivesAll, all_rows, collectives, message_items}
+use Rattle.must_local.specs.Walks.{GivesAll, all_rows, collectives, message_items, call_needs}
 use Rattle.must_tree.specs.Told.{flat, told_at, IsLeftOf, AreTied, ShowsNoRefusal}
 use Rattle.must_tree.specs.ToldLaws.{told_within, told_of, stream_at}
 use Rattle.must_tree.specs.Reading.{AreTold, AreAccepted, ReadsRun, RunRows, StopsAt, Analyses}
 use Rattle.must_tree.specs.Ranks.{all_ranks, GivesRank, ReadsRank, HoldsRanks, HoldsBelow, IsFaultOf, fault_at}
-use Rattle.must_tree.proofs.Lawful.{none_lower, batch_calls, batch_messages}
+use Rattle.must_tree.proofs.Lawful.{none_lower, batch_calls, batch_messages, batch_needs}
 use Rattle.must_tree.proofs.Members.{distinct_both}
 use Rattle.must_tree.proofs.RowParts.{row_parts, row_from}
 use Rattle.must_tree.proofs.Reached.{left_unread}
@@ -125,6 +138,7 @@ at_first left faults ps node stands = record {
         rows = below_first run mode;
         messages = messages_first run;
         items = items_first run;
+        needs = refl;
         distinct = λ x h. absurd h;
       };
 }
@@ -168,6 +182,7 @@ rows_more left first k old new node more streams within is reads told below run 
           (messages_more run k recorded (message_items h.batches) (message_items gives.given) here.recorded_is h.messages gives.gives.messages);
       items = subst (λ (l : List WaveItem). AreItemsBelow run (k + 1) l) (sym (flat_map-append (λ (b : Batch). entries.calls b.entries) h.batches gives.given))
           (items_more run k recorded (collectives h.batches) (collectives gives.given) here.recorded_is h.items gives.gives.waves);
+      needs = flat_map-append (λ (b : Batch). entries.needs b.entries) h.batches gives.given ∙ needs_more run k recorded (call_needs h.batches) (call_needs gives.given) here.recorded_is h.needs gives.gives.needs;
       distinct = subst HaveDistinctMembers (sym (flat_map-append (λ (b : Batch). entries.calls b.entries) h.batches gives.given)) (distinct_both (collectives h.batches) (collectives gives.given) h.distinct gives.distinct);
     }
 
@@ -227,16 +242,26 @@ settled_all size batches closed settles f =
 abbrev given_of : List Batch → Given
 given_of batches = record { messages = message_items batches; calls = collectives batches }
 
--- what the rows of a run are by the batches of all its ranks
-row_of_run : (run : Run) (mode : Mode) (rank : ℕ) (batches : List Batch) (f : Finding) → length run.ranks ≤ rank → HasRanksBelow run mode rank (all_rows batches) → IsRow (entries_of batches) f ↔ IsRunRow run mode (given_of batches) f
-row_of_run run mode rank batches f far rows = (
-  λ h. elim (row_parts batches f h) [
-    | inl plain ↦ elim plain [ inl own ↦ inl ((all_findings run mode rank (all_rows batches) f far rows).0 own) | inr m ↦ inr (inl m) ]
-    | inr wave ↦ inr (inr wave)
+-- the rows of the run that its messages, waves and needs don't give are those of its ranks
+row_of_run : (run : Run) (mode : Mode) (rank : ℕ) (batches : List Batch) (rows : Rows) (f : Finding) → rows ≡ waits_in run mode (given_of batches) → length run.ranks ≤ rank → HasRanksBelow run mode rank (all_rows batches)
+    → (IsRow (entries_of batches) f ⊎ IsWaitRow rows f) ↔ IsRunRow run mode (given_of batches) f
+row_of_run run mode rank batches rows f same far own_rows = (
+  λ h. elim h [
+    | inl row ↦ elim (row_parts batches f row) [
+      | inl plain ↦ elim plain [ inl own ↦ inl ((all_findings run mode rank (all_rows batches) f far own_rows).0 own) | inr m ↦ inr (inl m) ]
+      | inr wave ↦ inr (inr (inl wave))
+    ]
+    | inr wait ↦ inr (inr (inr (subst (λ (r : Rows). IsWaitRow r f) same wait)))
   ],
   λ h. elim h [
-    | inl own ↦ row_from batches f (inl (inl ((all_findings run mode rank (all_rows batches) f far rows).1 own)))
-    | inr other ↦ elim other [ inl m ↦ row_from batches f (inl (inr m)) | inr wave ↦ row_from batches f (inr wave) ]
+    | inl own ↦ inl (row_from batches f (inl (inl ((all_findings run mode rank (all_rows batches) f far own_rows).1 own))))
+    | inr other ↦ elim other [
+      | inl m ↦ inl (row_from batches f (inl (inr m)))
+      | inr more ↦ elim more [
+        | inl wave ↦ inl (row_from batches f (inr wave))
+        | inr wait ↦ inr (subst (λ (r : Rows). IsWaitRow r f) (sym same) wait)
+      ]
+    ]
   ],
 )
 
@@ -247,40 +272,70 @@ once_of run batches lawful distinct = record {
   members = distinct;
 }
 
--- the rows of what a root node was given
-rows_settled : (run : Run) (mode : Mode) (k : ℕ) (node : Node) (closed : Closed) → length run.ranks ≤ k → Closes node closed → Rises by_all closed.findings → HoldsRanks run mode k node → AreRunRows run mode closed.findings
-rows_settled run mode k node closed far closes rises h =
+-- ---- what the calls of the run wait for
+
+-- what the facts that a root closes with say of it is what the run's do
+waits_told : (run : Run) (mode : Mode) (batches : List Batch) (closed : Closed) → IsLawful (all_ranks (size_of run)) batches → Settles closed (inner true (all_ranks (size_of run)) (entries_of batches)) → call_needs batches ≡ needs_in run
+    → run_needs (is_strict mode) closed.facts (size_of run) ≡ waits_in run mode (given_of batches)
+waits_told run mode batches closed lawful settles wants =
+    let all = entries_of batches in
+    let inner_is : inner true (all_ranks (size_of run)) all ≡ all = all_pass all in
+    let facts : closed.facts ≡ facts_of all = settles.facts ∙ ap facts_of inner_is in
+    let told : List Fact = facts_with (message_items batches) (collectives batches) (needs_in run) in
+    let same : facts_with (entries.messages all) (entries.calls all) (entries.needs all) ≡ told =
+    ap (λ (ms : List MsgItem). facts_with ms (entries.calls all) (entries.needs all)) (batch_messages batches)
+    ∙ ap (λ (xs : List WaveItem). facts_with (message_items batches) xs (entries.needs all)) (batch_calls batches)
+    ∙ ap (facts_with (message_items batches) (collectives batches)) (batch_needs batches ∙ wants) in
+    let rearranged : Rearranges told (facts_of all) = subst (λ (fs : List Fact). Rearranges fs (facts_of all)) same (back (facts_apart all)) in
+    let needs : partners.needs closed.facts ≡ partners.needs told =
+    ap partners.needs facts ∙ needs_told all ∙ batch_needs batches ∙ wants ∙ sym (needs_with (message_items batches) (collectives batches) (needs_in run)) in
+    same_run all closed.facts told (from_equal closed.facts (facts_of all) facts) rearranged lawful.messages lawful.numbered lawful.calls needs (is_strict mode) (size_of run)
+
+-- what the analysis adds at the end
+abbrev pub Blocks : Closed → (size : ℕ) → (strict : Bool) → List Finding → Type 0
+Blocks closed size strict found = (f : Finding) → Has found f ↔ (Has closed.findings f ⊎ IsWaitRow (run_needs strict closed.facts size) f)
+
+-- the rows of what a root node was given, and those of blocked calls
+rows_settled : (run : Run) (mode : Mode) (k : ℕ) (node : Node) (closed : Closed) (found : List Finding) → length run.ranks ≤ k → Closes node closed → Blocks closed (size_of run) (is_strict mode) found → Rises by_all found → HoldsRanks run mode k node
+    → AreRunRows run mode found
+rows_settled run mode k node closed found far closes blocks rises h =
     let size = size_of run in
     let lawful = h.holds.lower.lawful in
-    let all = settled_all size h.batches closed (closes (all_ranks size) true h.batches [] h.holds.stands lawful) in
-    let exact : (f : Finding) → Has closed.findings f ↔ IsRunRow run mode (given_of h.batches) f = λ f. (
-      λ has. (row_of_run run mode k h.batches f far h.rows).0 ((all f).0 has),
-      λ is. (all f).1 ((row_of_run run mode k h.batches f far h.rows).1 is),
+    let settles = closes (all_ranks size) true h.batches [] h.holds.stands lawful in
+    let all = settled_all size h.batches closed settles in
+    let waits = waits_told run mode h.batches closed lawful settles (needs_all run k (call_needs h.batches) far h.needs) in
+    let of_run : (f : Finding) → (IsRow (entries_of h.batches) f ⊎ IsWaitRow (run_needs (is_strict mode) closed.facts size) f) ↔ IsRunRow run mode (given_of h.batches) f =
+    λ f. row_of_run run mode k h.batches (run_needs (is_strict mode) closed.facts size) f waits far h.rows in
+    let exact : (f : Finding) → Has found f ↔ IsRunRow run mode (given_of h.batches) f = λ f. (
+      λ has. (of_run f).0 (elim ((blocks f).0 has) [ inl there ↦ inl ((all f).0 there) | inr wait ↦ inr wait ]),
+      λ is. (blocks f).1 (elim ((of_run f).1 is) [ inl row ↦ inl ((all f).1 row) | inr wait ↦ inr wait ]),
     ) in
     record {
       given = given_of h.batches;
       is_given = record { messages = messages_all run k (message_items h.batches) far h.messages; calls = items_all run k (collectives h.batches) far h.items };
       lists = record {
-        rises = rise_by_place closed.findings (λ f g p q s. row_one run mode (given_of h.batches) f g (once_of run h.batches lawful h.distinct) s ((exact f).0 p) ((exact g).0 q)) rises;
+        rises = rise_by_place found (λ f g p q s. row_one run mode (given_of h.batches) f g (once_of run h.batches lawful h.distinct) s ((exact f).0 p) ((exact g).0 q)) rises;
         exact = exact;
       };
     }
 
-whole_run : (told : List (Option (List ℕ))) (k : ℕ) (node : Node) (closed : Closed) (streams : List (List ℕ)) → length told ≤ k → AreTold told streams → AreAccepted told (length told) → HoldsBelow streams k node → Closes node closed → Rises by_all closed.findings
-    → RunRows streams closed.findings
-whole_run told k node closed streams far is accepted below closes rises =
+whole_run : (mode : Mode) (told : List (Option (List ℕ))) (k size : ℕ) (node : Node) (closed : Closed) (found : List Finding) (streams : List (List ℕ)) → size ≡ length told → length told ≤ k → AreTold told streams → AreAccepted told (length told) → HoldsBelow streams k node
+    → Closes node closed → Blocks closed size (is_strict mode) found → Rises by_all found → RunRows mode streams found
+whole_run mode told k size node closed found streams count far is accepted below closes blocks rises =
     let r = run_of streams (complete told streams is accepted) in
     let n : length told ≡ length streams = ap length is ∙ length-map streams Some in
+    let of_run : Blocks closed (size_of r.0) (is_strict mode) found = subst (λ (m : ℕ). Blocks closed m (is_strict mode) found) (count ∙ n ∙ sym r.1.size) blocks in
     record {
       run = r.0;
       records = r.1;
-      are_rows = λ mode. rows_settled r.0 mode k node closed (omega (arith, r.1.size, n, far)) closes rises (below r.0 mode r.1);
+      are_rows = rows_settled r.0 mode k node closed found (omega (arith, r.1.size, n, far)) closes of_run rises (below r.0 mode r.1);
     }
 
-pub at_last : {S : Type 0} (left : S → Option (List ℕ)) (faults : S → ℕ) (first ps : List S) (k : ℕ) (node : Node) (closed : Closed)
-    → length first ≤ k → Closes node closed → Rises by_all closed.findings → Analysing left faults first ps k node → ReadsRun (map left first) (parts_of left faults ps) closed.findings
-at_last {S} left faults first ps k node closed far closes rises w =
+pub at_last : {S : Type 0} (left : S → Option (List ℕ)) (faults : S → ℕ) (mode : Mode) (first ps : List S) (k size : ℕ) (strict : Bool) (node : Node) (closed : Closed) (found : List Finding)
+    → size ≡ length first → strict ≡ is_strict mode → length first ≤ k → Closes node closed → Blocks closed size strict found → Rises by_all found → Analysing left faults first ps k node → ReadsRun mode (map left first) (parts_of left faults ps) found
+at_last {S} left faults mode first ps k size strict node closed found count taken far closes blocks rises w =
     let n = length-map first left in
+    let blocked = subst (λ (b : Bool). Blocks closed size b found) taken blocks in
     let accepted : AreAccepted (map left first) (length (map left first)) = λ q h. w.accepted q (omega (arith, n, h, far)) in
     record {
       accepted = accepted;
@@ -291,7 +346,7 @@ at_last {S} left faults first ps k node closed far closes rises w =
             part_at left faults ps q d within,
             w.read q d bytes (omega (arith, within, w.length_is, far)) told,
           );
-      of_run = λ streams told. whole_run (map left first) k node closed streams (omega (arith, n, far)) told accepted (w.rows streams told) closes rises;
+      of_run = λ streams told. whole_run mode (map left first) k size node closed found streams (count ∙ sym n) (omega (arith, n, far)) told accepted (w.rows streams told) closes blocked rises;
     }
 
 -- each part is that of its file
@@ -354,27 +409,27 @@ read_at left faults first ps k d new node within fresh w rose shows =
       λ bytes told. subst (λ (o : Option (List ℕ)). ShowsNoRefusal k (length (map left first)) bytes o) (ap left (sym same)) (shows bytes told),
     )
 
-pub at_fault : {S : Type 0} (left : S → Option (List ℕ)) (faults : S → ℕ) (first ps : List S) (k : ℕ) (d new : S) (node : Node) (f : StreamFault)
+pub at_fault : {S : Type 0} (left : S → Option (List ℕ)) (faults : S → ℕ) (mode : Mode) (first ps : List S) (k : ℕ) (d new : S) (node : Node) (f : StreamFault)
     → k < length first → AllByRecursion (λ p. faults p ≡ 0) first → Analysing left faults first ps k node
     → ((bytes : List ℕ) → left (get_or ps k d) ≡ Some bytes → IsFaultOf k (length first) bytes (left new) f)
     → (f ≡ fault.Read → Rose (faults (get_or ps k d)) (faults new))
-    → Analyses (map left first) (parts_of left faults (set ps k new)) (Err (fault_at k f))
-at_fault left faults first ps k d new node (fault.Malformed at c) within fresh w faulty rose =
+    → Analyses mode (map left first) (parts_of left faults (set ps k new)) (Err (fault_at k f))
+at_fault left faults mode first ps k d new node (fault.Malformed at c) within fresh w faulty rose =
     record {
       within = omega (arith, length-map first left, within);
       lower = w.accepted;
       stops = refused_at left first k (get_or ps k d) (left new) (fault.Malformed at c) (told_is left first k d within ∙ ap left (sym (w.unread k d (omega arith)))) faulty;
     }
-at_fault left faults first ps k d new node (fault.Bound at l) within fresh w faulty rose =
+at_fault left faults mode first ps k d new node (fault.Bound at l) within fresh w faulty rose =
     record {
       within = omega (arith, length-map first left, within);
       lower = w.accepted;
       stops = refused_at left first k (get_or ps k d) (left new) (fault.Bound at l) (told_is left first k d within ∙ ap left (sym (w.unread k d (omega arith)))) faulty;
     }
-at_fault left faults first ps k d new node fault.Read within fresh w faulty rose =
+at_fault left faults mode first ps k d new node fault.Read within fresh w faulty rose =
     record {
       within = omega (arith, length-map first left, within);
       lower = w.accepted;
       stops = read_at left faults first ps k d new node within fresh w (rose refl) (refused_at left first k (get_or ps k d) (left new) fault.Read (told_is left first k d within ∙ ap left (sym (w.unread k d (omega arith)))) faulty);
     }
-at_fault left faults first ps k d new node fault.NoMemory within fresh w faulty rose = tt
+at_fault left faults mode first ps k d new node fault.NoMemory within fresh w faulty rose = tt

@@ -33,7 +33,8 @@ use Rattle.must_local.specs.DistinctLaws.{has_append, has_front, has_behind}
 use Rattle.must_local.specs.Walks.{rank_by, WalkState, Walks, GivesAll, IsMiddle, all_rows, collectives, message_items, call_needs}
 use Rattle.must_messages.specs.ItemOrderLaws.{IsMessageAt, messages_at_rank}
 use Rattle.must_messages.specs.ItemNameLaws.{messages_orderly}
-use Rattle.must_messages.specs.GivenLaws.{given_orderly, given_at_rank}
+use Rattle.must_messages.specs.GivenLaws.{given_orderly, given_at_rank, needs_at_rank}
+use Rattle.must_messages.specs.NeedLaws.{needs_rise}
 use Rattle.must_tree.specs.Ranks.{all_ranks, AreLower}
 
 all_back : {X : Type 0} (P : X → Type 0) (xs ys : List X) → AllByRecursion P (xs ++ ys) → AllByRecursion P ys
@@ -162,8 +163,8 @@ all_beside : (r : Rank) (cs : List Call) (given : List Batch) → AreNumbered 64
 all_beside r cs given numbered gives = record {
   messages = messages_orderly r cs (message_items given) numbered gives.messages;
   messages_at = messages_at_rank r cs (message_items given) gives.messages;
-  needs = subst (λ (ws : List Waits). Rise (need_places ws)) (sym gives.needs) tt;
-  needs_at = subst (AllByRecursion (IsNeedAt r.rank)) (sym gives.needs) tt;
+  needs = subst (λ (ws : List Waits). Rise (need_places ws)) (sym gives.needs) (needs_rise r cs);
+  needs_at = subst (AllByRecursion (IsNeedAt r.rank)) (sym gives.needs) (needs_at_rank r cs);
 }
 
 pub walked_rank : (version : ℕ) (w : WalkState) (cs : List Call) (given : List Batch) → Walks version w cs given → IsOneRank (rank_by version w.rank) given

@@ -16,8 +16,8 @@ use Rattle.must_coll.specs.OneRowLaws.{HaveDistinctMembers}
 use Rattle.must_node.specs.declared.node.Node.{Node}
 use Rattle.must_node.specs.Nodes.{StandsFor}
 use Rattle.must_run.specs.RunWaves.{AreItemsBelow}
-use Rattle.must_run.specs.RunMessages.{AreMessagesBelow}
-use Rattle.must_local.specs.Walks.{RankTold, WalkState, Walks, GivesAll, all_rows, collectives, message_items}
+use Rattle.must_run.specs.RunMessages.{AreMessagesBelow, needs_below}
+use Rattle.must_local.specs.Walks.{RankTold, WalkState, Walks, GivesAll, all_rows, collectives, message_items, call_needs}
 use Rattle.must_tree.specs.declared.fault.RunFault.{RunFault}
 use Rattle.must_tree.specs.declared.fault.RunFault.TheVariants as run_fault
 use Rattle.must_tree.specs.Told.{ShowsNoRefusal}
@@ -71,13 +71,15 @@ IsLimitFault reached offset (fault.Bound at limit) = (at ≡ offset) × (reached
 IsLimitFault reached offset fault.Read = ⊥
 IsLimitFault reached offset fault.NoMemory = Unit {0}
 
--- what a root node holds of the ranks below this one: their own rows, their messages, and the items of their collective calls
+-- what a root node holds of the ranks below this one: their own rows, their messages, the items of their collective calls, and
+-- what their calls wait for
 pub record HoldsRanks (run : Run) (mode : Mode) (rank : ℕ) (node : Node) : Type 0 where
   pub batches : List Batch
   pub holds : Holds (size_of run) rank node batches
   pub rows : HasRanksBelow run mode rank (all_rows batches)
   pub messages : AreMessagesBelow run rank (message_items batches)
   pub items : AreItemsBelow run rank (collectives batches)
+  pub needs : call_needs batches ≡ needs_below run rank
   pub distinct : HaveDistinctMembers (collectives batches)
 
 -- that of each run that the streams record

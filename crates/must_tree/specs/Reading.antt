@@ -6,7 +6,9 @@ use Rattle.must_call.specs.declared.call.Call.{Call}
 use Rattle.must_format.specs.declared.fault.StreamFault.{StreamFault}
 use Rattle.must_format.specs.declared.fault.StreamFault.TheVariants as fault
 use Rattle.must_find.specs.declared.finding.Finding.{Finding}
-use Rattle.must_rules.specs.Run.{Run, Mode}
+use Rattle.must_rules.specs.Run.{Run, Mode, Strict, Buffered}
+use Rattle.must_plan.specs.declared.plan.Sends.{Sends}
+use Rattle.must_plan.specs.declared.plan.Sends.TheVariants as sends
 use Rattle.must_run.specs.RunRows.{AreRunRows}
 use Rattle.must_rules.specs.Streams.{Accepted, Refused, Records}
 use Rattle.must_tree.specs.declared.fault.RunFault.{RunFault}
@@ -31,18 +33,23 @@ IsRefused told rank fault =
 abbrev pub AreTold : List (Option (List ℕ)) → List (List ℕ) → Type 0
 AreTold told streams = told ≡ map Some streams
 
--- the run that the streams record, and its rows, however standard sends are taken: no rule so far asks
-pub record RunRows (streams : List (List ℕ)) (rows : List Finding) : Type 0 where
+-- how the replay takes standard sends, by the plan
+abbrev pub mode_of : Sends → Mode
+mode_of sends.Strict = Strict
+mode_of sends.Buffered = Buffered
+
+-- the run that the streams record, and its rows, where standard sends are taken so
+pub record RunRows (mode : Mode) (streams : List (List ℕ)) (rows : List Finding) : Type 0 where
   pub run : Run
   pub records : Records streams run
-  pub are_rows : (mode : Mode) → AreRunRows run mode rows
+  pub are_rows : AreRunRows run mode rows
 
 -- Every stream was read to its end and is accepted, and these are the rows of the run.
-pub record ReadsRun (told : List (Option (List ℕ))) (parts : List SourceView) (rows : List Finding) : Type 0 where
+pub record ReadsRun (mode : Mode) (told : List (Option (List ℕ))) (parts : List SourceView) (rows : List Finding) : Type 0 where
   pub accepted : AreAccepted told (length told)
   pub read : (rank : ℕ) (bytes : List ℕ) → told_at told rank ≡ Some bytes
       → (part : SourceView) × (slice_get parts rank ≡ Some part) × (part.left ≡ Some [])
-  pub of_run : (streams : List (List ℕ)) → AreTold told streams → RunRows streams rows
+  pub of_run : (streams : List (List ℕ)) → AreTold told streams → RunRows mode streams rows
 
 -- Why a rank stops a check: its stream is refused at its first bad place, or a read of it failed, and what was taken shows no
 -- refusal but that the stream ends too early.
@@ -60,7 +67,7 @@ pub record Stops (told : List (Option (List ℕ))) (parts : List SourceView) (ra
   pub stops : StopsAt told parts rank fault
 
 -- what an analysis of the streams answers
-abbrev pub Analyses : List (Option (List ℕ)) → List SourceView → Result (List Finding) RunFault → Type 0
-Analyses told parts (Ok rows) = ReadsRun told parts rows
-Analyses told parts (Err (run_fault.Stream rank fault)) = Stops told parts rank fault
-Analyses told parts (Err run_fault.NoMemory) = Unit {0}
+abbrev pub Analyses : Mode → List (Option (List ℕ)) → List SourceView → Result (List Finding) RunFault → Type 0
+Analyses mode told parts (Ok rows) = ReadsRun mode told parts rows
+Analyses mode told parts (Err (run_fault.Stream rank fault)) = Stops told parts rank fault
+Analyses mode told parts (Err run_fault.NoMemory) = Unit {0}

@@ -1,8 +1,6 @@
 //! Collective calls of two ranks: what docs/WAVES.md says of them.
 
-use super::{Answer, BARRIER, CLEAN, add_file, found, one_file, runs, stream, whole};
-use std::alloc::Global;
-use std::process::Abort;
+use super::{BARRIER, CLEAN, found, two_ranks};
 use std::test::Fail;
 
 /// A record of Bcast(4096, count, INT, root, world), returned.
@@ -17,26 +15,11 @@ fn bcast(count: u8, root: u8) -> [u8; 30] {
     ]
 }
 
-/// Checks the streams of two ranks with these records between Init and Finalize.
-fn two_ranks(
-    rt: &impl Abort,
-    alloc: Global,
-    first: &[&[u8]],
-    second: &[&[u8]],
-    want: &Answer,
-) -> Result<(), Fail> {
-    let a = stream(alloc, 0, 2, first)?;
-    let b = stream(alloc, 1, 2, second)?;
-    let mut files = one_file(alloc, &whole("a", &a))?;
-    add_file(alloc, &mut files, &whole("b", &b))?;
-    runs(rt, alloc, "check a b", files, want)
-}
-
 #[test]
 fn waves_that_agree(rt: HostRuntime) -> Result<(), Fail> {
     let alloc = rt.alloc();
     let calls: [&[u8]; 2] = [&BARRIER, &bcast(1, 0)];
-    two_ranks(&rt, alloc, &calls, &calls, &CLEAN)
+    two_ranks(&rt, alloc, "check a b", &calls, &calls, &CLEAN)
 }
 
 #[test]
@@ -44,7 +27,14 @@ fn other_kinds(rt: HostRuntime) -> Result<(), Fail> {
     let want = found(
         "rank 1 call 1 part 0: error C1 collective kinds differ, see 0:1, value 52\nviolations 1\n",
     );
-    two_ranks(&rt, rt.alloc(), &[&bcast(1, 0)], &[&BARRIER], &want)
+    two_ranks(
+        &rt,
+        rt.alloc(),
+        "check a b",
+        &[&bcast(1, 0)],
+        &[&BARRIER],
+        &want,
+    )
 }
 
 #[test]
@@ -52,7 +42,14 @@ fn other_roots(rt: HostRuntime) -> Result<(), Fail> {
     let want = found(
         "rank 1 call 1 part 0: error C2 roots differ, see 0:1, value 1\nviolations 1\n",
     );
-    two_ranks(&rt, rt.alloc(), &[&bcast(1, 0)], &[&bcast(1, 1)], &want)
+    two_ranks(
+        &rt,
+        rt.alloc(),
+        "check a b",
+        &[&bcast(1, 0)],
+        &[&bcast(1, 1)],
+        &want,
+    )
 }
 
 #[test]
@@ -60,13 +57,20 @@ fn other_amounts(rt: HostRuntime) -> Result<(), Fail> {
     let want = found(
         "rank 1 call 1 part 0: error C4 collective amounts differ, see 0:1, value 1\nviolations 1\n",
     );
-    two_ranks(&rt, rt.alloc(), &[&bcast(1, 0)], &[&bcast(2, 0)], &want)
+    two_ranks(
+        &rt,
+        rt.alloc(),
+        "check a b",
+        &[&bcast(1, 0)],
+        &[&bcast(2, 0)],
+        &want,
+    )
 }
 
 #[test]
 fn a_member_without_a_call(rt: HostRuntime) -> Result<(), Fail> {
     let want = found(
-        "rank 0 call 1 part 0: error C5 member missing, see -, value 1\nviolations 1\n",
+        "rank 0 call 1 part 0: error C5 member missing, see -, value 1\nrank 0 call 1 part 0: error W2 blocked outside the core, see 1:2, value 0\nviolations 2\n",
     );
-    two_ranks(&rt, rt.alloc(), &[&BARRIER], &[], &want)
+    two_ranks(&rt, rt.alloc(), "check a b", &[&BARRIER], &[], &want)
 }

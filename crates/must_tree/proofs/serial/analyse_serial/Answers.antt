@@ -1,7 +1,7 @@
 use Rattle.std.proofs.Common.{List, map, refl, sym, ap, subst, Err, ◌∙◌}
 use Rattle.std.proofs.Math.ListN.{set}
 use Rattle.must_base.specs.Views.{SourceView}
-use Rattle.must_tree.specs.Reading.{ReadsRun}
+use Rattle.must_tree.specs.Reading.{ReadsRun, mode_of}
 use Rattle.must_tree.specs.Told.{AreTied}
 use Rattle.must_tree.specs.Reading.{Analyses}
 use Rattle.must_tree.specs.Ranks.{fault_at}
@@ -20,8 +20,10 @@ loop-rank-preserved g c = record {
 
 pub returns-clause-analyses : goal.returns-clause-analyses
 returns-clause-analyses g c =
-    subst (λ (parts : List SourceView). ReadsRun (map g.S.Source.left c.args.parts.now) parts c.in_ok-closed.closed.findings) (sym (parts_shown g.S.Source.shows g.S.Source.left g.S.Source.faults g.met.S.Source.shows_is c.loop-rank.parts))
-    (at_last g.S.Source.left g.S.Source.faults c.args.parts.now c.loop-rank.parts c.loop-rank.rank c.loop-rank.node c.in_ok-closed.closed c.loop-rank-test.false c.in_ok-closed.ensures c.as_slice.ensures.rises c.loop-rank.invariant.analysing)
+    let mode = mode_of c.args.plan.now.sends in
+    subst (λ (parts : List SourceView). ReadsRun mode (map g.S.Source.left c.args.parts.now) parts c.in_ok-findings.findings) (sym (parts_shown g.S.Source.shows g.S.Source.left g.S.Source.faults g.met.S.Source.shows_is c.loop-rank.parts))
+    (at_last g.S.Source.left g.S.Source.faults mode c.args.parts.now c.loop-rank.parts c.loop-rank.rank _ c.is_strict.result c.loop-rank.node c.in_ok-closed.closed c.in_ok-findings.findings
+    c.loop-rank.invariant.size_is c.is_strict.ensures c.loop-rank-test.false c.in_ok-closed.ensures c.in_ok-findings.ensures c.as_slice.ensures.rises c.loop-rank.invariant.analysing)
 
 pub returns-clause-tied : goal.returns-clause-tied
 returns-clause-tied g c =
@@ -31,9 +33,9 @@ returns-clause-tied g c =
 pub returns-in-Err-clause-analyses : goal.returns-in-Err-clause-analyses
 returns-in-Err-clause-analyses g c =
     rw c.at.ensures
-    (subst (λ (parts : List SourceView). Analyses (map g.S.Source.left c.args.parts.now) parts (Err (fault_at c.loop-rank.rank c.in-Err.fault)))
+    (subst (λ (parts : List SourceView). Analyses (mode_of c.args.plan.now.sends) (map g.S.Source.left c.args.parts.now) parts (Err (fault_at c.loop-rank.rank c.in-Err.fault)))
     (sym (parts_shown g.S.Source.shows g.S.Source.left g.S.Source.faults g.met.S.Source.shows_is (set c.loop-rank.parts c.loop-rank.rank c.read_rank.new.src)))
-    (at_fault g.S.Source.left g.S.Source.faults c.args.parts.now c.loop-rank.parts c.loop-rank.rank _ c.read_rank.new.src c.loop-rank.node c.in-Err.fault
+    (at_fault g.S.Source.left g.S.Source.faults (mode_of c.args.plan.now.sends) c.args.parts.now c.loop-rank.parts c.loop-rank.rank _ c.read_rank.new.src c.loop-rank.node c.in-Err.fault
     c.loop-rank-test.true c.requires.fresh c.loop-rank.invariant.analysing c.in-Err.ensures.refused (λ e. c.read_rank.ensures.read (c.in-Err.is ∙ ap Err e))))
 
 pub returns-in-Err-clause-tied : goal.returns-in-Err-clause-tied
@@ -49,5 +51,10 @@ returns-in_err-node-clause-tied g c =
 
 pub returns-in_err-closed-clause-tied : goal.returns-in_err-closed-clause-tied
 returns-in_err-closed-clause-tied g c =
+    subst (λ (parts : List SourceView). AreTied (map g.S.Source.left c.args.parts.now) parts) (sym (parts_shown g.S.Source.shows g.S.Source.left g.S.Source.faults g.met.S.Source.shows_is c.loop-rank.parts))
+    (tied_at_last g.S.Source.left g.S.Source.faults c.args.parts.now c.loop-rank.parts c.loop-rank.rank c.loop-rank.node c.loop-rank-test.false c.loop-rank.invariant.analysing)
+
+pub returns-in_err-findings-clause-tied : goal.returns-in_err-findings-clause-tied
+returns-in_err-findings-clause-tied g c =
     subst (λ (parts : List SourceView). AreTied (map g.S.Source.left c.args.parts.now) parts) (sym (parts_shown g.S.Source.shows g.S.Source.left g.S.Source.faults g.met.S.Source.shows_is c.loop-rank.parts))
     (tied_at_last g.S.Source.left g.S.Source.faults c.args.parts.now c.loop-rank.parts c.loop-rank.rank c.loop-rank.node c.loop-rank-test.false c.loop-rank.invariant.analysing)

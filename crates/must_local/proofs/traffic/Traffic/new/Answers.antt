@@ -7,4 +7,4 @@ use Rattle.must_local.proofs.traffic.Traffic.new.Goals as goal
 pub returns : goal.returns
 returns c =
     let fits : FitsSigned w32 c.args.tag_ub = search rules in
-    λ r rank tag. record { requests = c.new-requests.ensures r; messages = c.in_ok-messages.ensures r rank (tag ∙ sym (to_z-of_z w32 c.args.tag_ub fits)) }
+    λ r rank tag. record { requests = c.new-requests.ensures r; messages = c.in_ok-messages.ensures r rank (tag ∙ sym (to_z-of_z w32 c.args.tag_ub fits)); needs = c.in_ok-needs.ensures r }

@@ -1,0 +1,4 @@
+pub mod Joining
+pub mod Requesting
+pub mod Stepping
+pub mod Telling
