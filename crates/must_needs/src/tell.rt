@@ -69,7 +69,7 @@ fn join_names(
 ) -> Result<Option<Way>, NoMemory>
     ensures { IfOk result (λ way. way ≡ together (map (name_need rank (map (need_seen rank) needs.now)) names.now)) }
 {
-    let mut wants = Vec::new(alloc);
+    let mut wants = Vec::with_capacity(alloc, names.len())?;
     for name in names {
         let Some(want) = name_want(rank, needs, *name) else {
             return Ok(None);
@@ -93,7 +93,7 @@ fn push_way(ways: &mut Vec<Way>, way: Option<Way>) -> Result<(), NoMemory>
 fn one_way(alloc: Global, way: Option<Way>) -> Result<Vec<Way>, NoMemory>
     ensures { IfOk result (λ ways. ways.items ≡ option_to_list way) }
 {
-    let mut ways = Vec::new(alloc);
+    let mut ways = Vec::with_capacity(alloc, 1)?;
     push_way(&mut ways, way)?;
     Ok(ways)
 }
@@ -105,7 +105,7 @@ fn lone_way(alloc: Global, rank: u32, needs: &[Need], name: Name) -> Result<Opti
     let Some(want) = name_want(rank, needs, name) else {
         return Ok(None);
     };
-    let mut wants = Vec::new(alloc);
+    let mut wants = Vec::with_capacity(alloc, 1)?;
     push_want(&mut wants, want)?;
     Ok(Some(Way::from_vec(wants)))
 }
@@ -114,7 +114,7 @@ fn lone_way(alloc: Global, rank: u32, needs: &[Need], name: Name) -> Result<Opti
 fn each_way(alloc: Global, rank: u32, needs: &[Need], names: &[Name]) -> Result<Vec<Way>, NoMemory>
     ensures { IfOk result (λ ways. ways.items ≡ filter_map (name_need rank (map (need_seen rank) needs.now)) names.now) }
 {
-    let mut ways = Vec::new(alloc);
+    let mut ways = Vec::with_capacity(alloc, names.len())?;
     for name in names {
         let way = lone_way(alloc, rank, needs, *name)?;
         push_way(&mut ways, way)?;
@@ -153,6 +153,7 @@ pub(crate) fn push_needs(
     ensures { OnOk result (entries.new.items ≡ entries.old.items ++ entries_from rank 0 (map (ways_named rank (map (need_seen rank) needs.now)) calls.now)) }
 {
     let alloc = *entries.allocator();
+    entries.reserve_exact(calls.len())?;
     for (i, ways) in calls.iter().enumerate() {
         let Ok(call) = u32::try_from(i) else {
             return Err(NoMemory);

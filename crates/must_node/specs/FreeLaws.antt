@@ -90,7 +90,7 @@ one_numbered ms s x y c o h k p q e =
     some_is x y (sym (stands_at s ms x o h p c (class_of x) refl) ∙ ap (λ i. slice_get (lane (class_of x) s ms) i) n ∙ stands_at s ms y o k q c (class_of x) same)
 
 module _ (entries : List Entry) (a b : List Fact) (ra : Rearranges a (facts_of entries)) (rb : Rearranges b (facts_of entries)) (o : p2p.Orderly (messages entries)) (w : waves.Orderly (entry.calls entries))
-    (rise : Rise (map (λ (z : WaveItem). z.place) (entry.calls entries))) (same_needs : needs a ≡ needs b) where
+    (rise : Rise (map (λ (z : WaveItem). z.place) (entry.calls entries))) (same_needs : (rank : ℕ) → needs_of_rank a rank ≡ needs_of_rank b rank) where
   ab : Rearranges a b
   ab = through ra (back rb)
 
@@ -124,7 +124,7 @@ module _ (entries : List Entry) (a b : List Fact) (ra : Rearranges a (facts_of e
       i.is ∙ ap told n ∙ sym j.is)
 
   same_past : (rank : ℕ) → past a rank ≡ past b rank
-  same_past rank = ap (λ (ns : List Waits). record { rank = rank; call = length (filter (λ (v : Waits). v.place.rank == rank) ns) }) same_needs
+  same_past rank = ap (λ (ns : List Waits). record { rank = rank; call = length ns }) (same_needs rank)
 
   same_member : (m : Member) → member_call a m ≡ member_call b m
   same_member m = member_told entries a ra w m ∙ sym (member_told entries b rb w m)
@@ -169,7 +169,7 @@ module _ (entries : List Entry) (a b : List Fact) (ra : Rearranges a (facts_of e
   same_list strict (n ∷ ns) = ap (λ (l : Needs). l ∷ map (λ (v : Waits). call_needs strict a v.ways) ns) (same_ways strict n.ways) ∙ ap (λ (l : List Needs). call_needs strict b n.ways ∷ l) (same_list strict ns)
 
   same_rank : (strict : Bool) (rank : ℕ) → rank_needs strict a a rank ≡ rank_needs strict b b rank
-  same_rank strict rank = same_list strict (needs_of_rank a rank) ∙ ap (λ (ns : List Waits). map (λ (v : Waits). call_needs strict b v.ways) (filter (λ (v : Waits). v.place.rank == rank) ns)) same_needs
+  same_rank strict rank = same_list strict (needs_of_rank a rank) ∙ ap (λ (ns : List Waits). map (λ (v : Waits). call_needs strict b v.ways) ns) (same_needs rank)
 
   same_ranks : (strict : Bool) (rank count : ℕ) → ranks_from strict a a rank count ≡ ranks_from strict b b rank count
   same_ranks strict rank zero = refl

@@ -11,6 +11,7 @@ use crate::needs::run_rows;
 use crate::waits::add_waits;
 use must_base::NoMemory;
 use must_find::Findings;
+use must_wait::Rows;
 use std::alloc::Global;
 
 /// The rows and the facts of some entries.
@@ -18,6 +19,13 @@ use std::alloc::Global;
 pub struct Closed {
     pub findings: Findings,
     pub facts: FactList,
+}
+
+/// What the calls of a run of so many ranks wait for. The facts go here, since the replay asks the rows alone.
+fn rows_of(alloc: Global, facts: FactList, size: u32, strict: bool) -> Result<Rows, NoMemory>
+    ensures { IfOk result (λ rows. rows ≡ run_needs strict facts size) }
+{
+    run_rows(alloc, facts.items(), size, strict)
 }
 
 impl Closed {
@@ -39,7 +47,7 @@ impl Closed {
         ensures { IfOk result (λ found. (f : Finding) → Has found f ↔ (Has self.findings f ⊎ IsWaitRow (run_needs strict self.facts size) f)) }
     {
         let Closed { findings, facts } = self;
-        let rows = run_rows(alloc, facts.items(), size, strict)?;
+        let rows = rows_of(alloc, facts, size, strict)?;
         let mut found = findings;
         add_waits(alloc, &rows, &mut found)?;
         Ok(found)

@@ -25,7 +25,7 @@ ghost use Rattle.must_node.specs.Facts.{facts_of};
 ghost use Rattle.must_node.specs.Inner.{within, inner, outer};
 ghost use Rattle.must_node.specs.Nodes.{all_up};
 ghost use Rattle.must_node.specs.Levels.{Part, all_given, all_left, IsRowOfOne, all_facts, AreApart, IsInside, AreLevels, IsRowOfLevels, facts_of_levels};
-ghost use Rattle.must_node.specs.Partners.{meeting_of, needs, place_of, past, place_or, wave_places};
+ghost use Rattle.must_node.specs.Partners.{meeting_of, needs, needs_of_rank, place_of, past, place_or, wave_places};
 ghost use Rattle.must_node.specs.RunNeeds.{run_needs};
 ghost use Rattle.must_node.specs.PartnerLaws.{numbered};
 ghost use Rattle.must_node.specs.MemberLaws.{told};
@@ -103,6 +103,6 @@ pub fn needs_come_from_the_root()
 /// The needs of a run are the same of facts in any order, where the needs of each rank stand in one order: so are its blocked
 /// calls, whatever nodes gave the facts.
 pub fn needs_are_free()
-    ensures { (entries : List Entry) (a b : List Fact) → Rearranges a (facts_of entries) → Rearranges b (facts_of entries) → Orderly (messages entries) → waves.Orderly (calls entries) → Rise (map (λ (x : WaveItem). x.place) (calls entries)) → needs a ≡ needs b
+    ensures { (entries : List Entry) (a b : List Fact) → Rearranges a (facts_of entries) → Rearranges b (facts_of entries) → Orderly (messages entries) → waves.Orderly (calls entries) → Rise (map (λ (x : WaveItem). x.place) (calls entries)) → ((rank : ℕ) → needs_of_rank a rank ≡ needs_of_rank b rank)
         → (strict : Bool) (size : ℕ) → run_needs strict a size ≡ run_needs strict b size }
 {}

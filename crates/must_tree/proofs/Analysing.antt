@@ -1,7 +1,7 @@
 -- One turn of the analysis, and its answers.
 use Rattle.std.proofs.Common.{◌≡◌, ℕ, zero, suc, ◌+◌, ◌<◌, ◌≤◌, List, [], ◌∷◌, ◌++◌, length, map, get_or, Option, Some, Err, refl, sym, ap, subst, ◌∙◌, inl, inr, arith, zero-add}
 use Rattle.std.proofs.Math.ListN.{set}
-use Rattle.std.specs.Prelude.{Bool, true, ◌⊎◌, ◌↔◌, slice_get}
+use Rattle.std.specs.Prelude.{Bool, true, ◌⊎◌, ◌↔◌, ◌==◌, filter, slice_get}
 use Rattle.std.specs.Option.{option_map}
 use Rattle.std.specs.List.{AllByRecursion}
 use Rattle.std.proofs.lemmas.Bool.{cases_order}
@@ -289,7 +289,7 @@ waits_told run mode batches closed lawful settles wants =
     let rearranged : Rearranges told (facts_of all) = subst (λ (fs : List Fact). Rearranges fs (facts_of all)) same (back (facts_apart all)) in
     let needs : partners.needs closed.facts ≡ partners.needs told =
     ap partners.needs facts ∙ needs_told all ∙ batch_needs batches ∙ wants ∙ sym (needs_with (message_items batches) (collectives batches) (needs_in run)) in
-    same_run all closed.facts told (from_equal closed.facts (facts_of all) facts) rearranged lawful.messages lawful.numbered lawful.calls needs (is_strict mode) (size_of run)
+    same_run all closed.facts told (from_equal closed.facts (facts_of all) facts) rearranged lawful.messages lawful.numbered lawful.calls (λ rank. ap (λ (ws : List Waits). filter (λ (w : Waits). w.place.rank == rank) ws) needs) (is_strict mode) (size_of run)
 
 -- what the analysis adds at the end
 abbrev pub Blocks : Closed → (size : ℕ) → (strict : Bool) → List Finding → Type 0

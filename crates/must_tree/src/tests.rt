@@ -33,12 +33,27 @@ fn source(alloc: Global, bytes: &[u8]) -> Result<MemSource, Fail>
     Ok(MemSource::new(bytes.to_vec(alloc)?, 3, Vec::new(alloc)))
 }
 
-fn plan() -> Plan {
+fn plan(sends: Sends) -> Plan {
     Plan {
         fan_in: 2,
-        sends: Sends::Strict,
+        sends,
         rules: RuleSet::usual(),
     }
+}
+
+/// A rank of 2: Init, Send(4096, 4, INT, to the other, tag 0), Recv(8192, 4, INT, from the other, tag 0), Finalize.
+fn sends_first(alloc: Global, rank: u8, other: u8) -> Result<Vec<u8>, Fail> {
+    let bytes = [
+        77, 84, 82, 67, 1, 0, 0, 0, rank, 0, 0, 0, 2, 0, 0, 0x7f, 0xff, // header
+        1, 0, 0, 0, 0, 0, // Init
+        3, 0, 0, 0, 0, 28, 0, 0, 0, 0, 0, 0, 16, 0, 0, 0, 0, 4, 0, 0, 0, 7, 0, 0, 0, other, 0, 0,
+        0, 0, 0, 0, 0, 1, // Send
+        7, 0, 0, 0, 0, 37, 0, 0, 0, 0, 0, 0, 32, 0, 0, 0, 0, 4, 0, 0, 0, 7, 0, 0, 0, other, 0, 0,
+        0, 0, 0, 0, 0, 1, 0, 0, 0, other, 0, 0, 0, 0, 0, // Recv
+        2, 0, 0, 0, 0, 0, // Finalize
+        0, 0, 0, 0, 0, 4, 0, 0, 0, 4, // end
+    ];
+    Ok(bytes.to_vec(alloc)?)
 }
 
 /// A type that is open at Finalize, and a Finalize that isn't there.
@@ -46,7 +61,7 @@ fn plan() -> Plan {
 fn a_leak_and_no_finalize(rt: HostRuntime) -> Result<(), Fail> {
     let alloc = rt.alloc();
     let mut parts = [source(alloc, &LEAK)?, source(alloc, &NO_FINALIZE)?];
-    match analyse_serial(alloc, &mut parts, &plan()) {
+    match analyse_serial(alloc, &mut parts, &plan(Sends::Strict)) {
         Err(_) => assert!(&rt; false),
         Ok(findings) => {
             assert_eq!(&rt; findings.len(), 2);
@@ -82,9 +97,42 @@ fn a_refused_stream(rt: HostRuntime) -> Result<(), Fail> {
         at: 0,
         cause: Cause::Truncated,
     };
-    match analyse_serial(alloc, &mut parts, &plan()) {
+    match analyse_serial(alloc, &mut parts, &plan(Sends::Strict)) {
         Ok(_) => assert!(&rt; false),
         Err(e) => assert_eq!(&rt; e, RunFault::Stream { rank: 1, fault }),
+    }
+    Ok(())
+}
+
+/// Both ranks send first: under strict sends they wait for each other's receives, which stand behind; buffered sends go on.
+#[test]
+fn both_send_first(rt: HostRuntime) -> Result<(), Fail> {
+    let alloc = rt.alloc();
+    for (sends, count) in [(Sends::Strict, 2), (Sends::Buffered, 0)] {
+        let mut parts = [
+            source(alloc, &sends_first(alloc, 0, 1)?)?,
+            source(alloc, &sends_first(alloc, 1, 0)?)?,
+        ];
+        match analyse_serial(alloc, &mut parts, &plan(sends)) {
+            Err(_) => assert!(&rt; false),
+            Ok(findings) => {
+                assert_eq!(&rt; findings.len(), count);
+                for (rank, found) in findings.as_slice().iter().enumerate() {
+                    let blocked = Finding {
+                        rank: u32::try_from(rank)?,
+                        call: 1,
+                        rule: Rule::W1,
+                        part: 0,
+                        see: Some(Place {
+                            rank: if rank == 0 { 1 } else { 0 },
+                            call: 2,
+                        }),
+                        value: 0,
+                    };
+                    assert_eq!(&rt; *found, blocked);
+                }
+            }
+        }
     }
     Ok(())
 }

@@ -1,0 +1,12 @@
+pub mod PortLists
+pub mod Moves
+pub mod Leaves
+pub mod Adding
+pub mod RankLists
+pub mod Gathered
+pub mod Joins
+pub mod Rises
+pub mod Settling
+pub mod Nodes
+pub mod Shapes
+pub mod Trees

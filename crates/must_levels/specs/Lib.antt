@@ -1,0 +1,6 @@
+pub mod Producing
+pub mod Sending
+pub mod Telling
+pub mod Running
+pub mod Shape
+pub mod RowLists
