@@ -1,2 +1,5 @@
+pub mod Complete
 pub mod Fits
+pub mod Follows
+pub mod Members
 pub mod Ranges

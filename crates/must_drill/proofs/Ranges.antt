@@ -4,7 +4,9 @@ use Rattle.std.specs.List.{range_with_len, filter, flat_map}
 use Rattle.std.proofs.lemmas.Grind.{flat_map-append}
 use Rattle.std.proofs.lemmas.List.{map-append}
 use Rattle.std.proofs.lemmas.List.Elements.{filter-append}
-use Rattle.std.proofs.lemmas.List.FromFn.{map-range_with_len_more}
+use Rattle.std.proofs.lemmas.List.FromFn.{map-range_with_len_more, length-map-range_with_len, get_or-map-range_with_len}
+use Rattle.std.proofs.lemmas.Option.{slice_get-get_or}
+use Rattle.std.specs.Prelude.{slice_get, Option, Some}
 use Rattle.must_call.specs.declared.call.Call.{Call}
 use Rattle.must_format.specs.Spelling.{end_text}
 use Rattle.must_format.specs.Stream.{header_text}
@@ -68,3 +70,8 @@ whole_stream ranks rounds number rank a b c d e ha hb hc hd he =
         ∙ append_assoc (head ++ first) rounds_text close ∙ append_assoc head first (rounds_text ++ close) ∙ ap (λ (xs : List ℕ). head ++ xs) (sym all) in
     he ∙ ap (λ (xs : List ℕ). xs ++ end_text (7 + 6 * rounds)) d_is ∙ append_assoc head (records_of (calls_of ranks rounds number rank)) (end_text (7 + 6 * rounds))
     ∙ ap (λ (n : ℕ). head ++ (records_of (calls_of ranks rounds number rank) ++ end_text n)) (sym (length-calls ranks rounds number rank))
+
+pub made_at : (f : ℕ → List ℕ) (n i : ℕ) → i < n → slice_get (map f (range_with_len 0 n)) i ≡ Some (f i)
+made_at f n i less =
+    let some : List ℕ → Option (List ℕ) = λ xs. Some xs in
+    slice_get-get_or (map f (range_with_len 0 n)) i [] (omega (arith, less, length-map-range_with_len f 0 n)) ∙ ap some (get_or-map-range_with_len f 0 n i i [] less (omega arith))

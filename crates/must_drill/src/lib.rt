@@ -8,9 +8,11 @@
 mod calls;
 
 mod handles;
+mod laws;
 mod numbers;
 mod round;
 mod set;
 mod stream;
 
+pub use laws::{complete_run, streams_in_order};
 pub use set::{StreamSet, drill};
