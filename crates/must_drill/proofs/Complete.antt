@@ -199,12 +199,12 @@ rounds_follow ranks number rank (suc m) less few early =
     let to : Follow rank ranks (66 + 4 * m) (66 + 4 * suc m) (round_calls r) = subst (λ (x : ℕ). Follow rank ranks (66 + 4 * m) x (round_calls r)) (omega (arith, is)) from in
     follow_append rank ranks 66 (66 + 4 * m) (66 + 4 * suc m) (rounds_of ranks number rank m) (round_calls r) (rounds_follow ranks number rank m less few (omega (arith, early))) to
 
-calls_follow : (ranks rounds number rank : ℕ) → rank < ranks → ranks ≤ 1024 → rounds ≤ 1000 → Follow rank ranks 64 (66 + 4 * rounds) (calls_of ranks rounds number rank)
+pub calls_follow : (ranks rounds number rank : ℕ) → rank < ranks → ranks ≤ 1024 → rounds ≤ 1000 → Follow rank ranks 64 (66 + 4 * rounds) (calls_of ranks rounds number rank)
 calls_follow ranks rounds number rank less few early =
     follow_append rank ranks 64 66 (66 + 4 * rounds) (opening ranks rank) (rounds_of ranks number rank rounds ++ closing) (opening_follows ranks rank less few)
     (follow_append rank ranks 66 (66 + 4 * rounds) (66 + 4 * rounds) (rounds_of ranks number rank rounds) closing (rounds_follow ranks number rank rounds less few early) (closing_follows ranks rank (66 + 4 * rounds)))
 
-header_stands : (ranks rank : ℕ) → rank < ranks → ranks ≤ 1024 → IsHeader (whose rank ranks) (header_of ranks rank)
+pub header_stands : (ranks rank : ℕ) → rank < ranks → ranks ≤ 1024 → IsHeader (whose rank ranks) (header_of ranks rank)
 header_stands ranks rank less few = record {
   version = refl;
   expected = rw (eq-eqb rank rank refl, eq-eqb ranks ranks refl) refl;
@@ -214,7 +214,7 @@ header_stands ranks rank less few = record {
   tag_fits = record { sfits = omega arith };
 }
 
-pub complete_stream : (ranks rounds number rank : ℕ) → rank < ranks → ranks ≤ 1024 → rounds ≤ 1000 → IsComplete (whose rank ranks) (stream_of ranks rounds number rank) (calls_of ranks rounds number rank)
+unfoldable pub complete_stream : (ranks rounds number rank : ℕ) → rank < ranks → ranks ≤ 1024 → rounds ≤ 1000 → IsComplete (whose rank ranks) (stream_of ranks rounds number rank) (calls_of ranks rounds number rank)
 complete_stream ranks rounds number rank less few early = record {
   header = header_of ranks rank;
   good = header_stands ranks rank less few;

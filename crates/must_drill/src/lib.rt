@@ -13,6 +13,8 @@ mod numbers;
 mod round;
 mod set;
 mod stream;
+#[cfg(test)]
+mod tests;
 
-pub use laws::{complete_run, streams_in_order};
+pub use laws::{accepted_run, complete_run, streams_in_order};
 pub use set::{StreamSet, drill};
