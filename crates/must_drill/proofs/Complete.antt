@@ -1,5 +1,5 @@
 -- The stream of each rank is complete.
-use Rattle.std.proofs.Common.{◌≡◌, ℕ, zero, suc, ◌+◌, ◌-◌, ◌*◌, ◌≤◌, ◌<◌, ◌^◌, ◌%◌, ◌/◌, Bool, true, false, cond, eqb, List, [], ◌∷◌, ◌++◌, length, Some, None, refl, sym, ap, subst, ◌∙◌, arith}
+use Rattle.std.proofs.Common.{◌≡◌, ℕ, zero, suc, ◌+◌, ◌-◌, ◌*◌, ◌≤◌, ◌<◌, ◌^◌, ◌/◌, Bool, true, false, cond, [], ◌++◌, refl, subst, arith}
 use Rattle.std.proofs.lemmas.Bool.{eq-eqb}
 use Rattle.std.proofs.lemmas.Nat.{mod_below}
 use Rattle.must_call.specs.declared.class.Class.TheVariants as class
@@ -14,8 +14,8 @@ use Rattle.must_format.specs.Stream.{whose}
 use Rattle.must_format.specs.Complete.{IsHeader, IsComplete}
 use Rattle.must_drill.specs.declared.round.Round.{Round}
 use Rattle.must_drill.specs.declared.handles.TheConstants.{HALF, PAIR}
-use Rattle.must_drill.specs.Numbers.{state_at, count_in, is_long, sent_in, left_of, right_of, round_of, round_at}
-use Rattle.must_drill.specs.Calls.{done, mates_of, split, pair, opening, receive, send, wait, sum, round_calls, rounds_of, closing, calls_of}
+use Rattle.must_drill.specs.Numbers.{state_at, count_in, is_long, round_of}
+use Rattle.must_drill.specs.Calls.{done, split, pair, opening, receive, send, wait, sum, round_calls, rounds_of, closing, calls_of}
 use Rattle.must_drill.specs.Streams.{records_of, header_of, stream_of}
 use Rattle.must_drill.proofs.Fits.{init_fits, finalize_fits, commit_fits, type_free_fits, comm_free_fits, pair_fits, split_fits, receive_fits, send_fits, wait_fits, sum_fits}
 use Rattle.must_drill.proofs.Members.{mates_stand}

@@ -1,20 +1,18 @@
 -- A record may have each call of a run.
-use Rattle.std.proofs.Common.{◌≡◌, ℕ, cond, zero, suc, ◌+◌, ◌*◌, ◌≤◌, ◌<◌, ◌^◌, ◌%◌, ◌==◌, Bool, true, false, ℤ, pos, List, [], ◌∷◌, ◌++◌, length, Some, refl, sym, ap, subst, ◌∙◌, rules, arith}
+use Rattle.std.proofs.Common.{ℕ, cond, zero, suc, ◌+◌, ◌≤◌, ◌<◌, ◌^◌, ◌%◌, ◌==◌, Bool, true, false, pos, List, ◌∷◌, length, refl, arith}
 use Rattle.std.specs.Prelude.{FitsSigned}
 use Rattle.std.specs.Int.{w32}
 use Rattle.std.specs.List.{range_with_len, filter, AllByRecursion}
 use Rattle.std.proofs.lemmas.Nat.{mod_below}
-use Rattle.must_call.specs.declared.call.Call.{Call}
 use Rattle.must_call.specs.declared.field.Item.TheVariants as item
 use Rattle.must_call.specs.declared.body.Body.TheVariants.{Frame, Derive, Object}
 use Rattle.must_call.specs.declared.frame.Frame.TheVariants.{Init, Finalize}
 use Rattle.must_call.specs.declared.derive.Derive.TheVariants.{TypeCommit, TypeFree}
 use Rattle.must_call.specs.declared.object.Object.TheVariants.{CommFree}
-use Rattle.must_format.specs.Values.{u32, u64, i32, i64, IsItem, items_text, list_text}
+use Rattle.must_format.specs.Values.{u32, u64, i32, i64, IsItem}
 use Rattle.must_format.specs.ItemLaws.{length-items}
 use Rattle.must_format.specs.Payload.{payload_text}
 use Rattle.must_format.specs.Spelling.{IsSpellable}
-use Rattle.must_drill.specs.declared.round.Round.{Round}
 use Rattle.must_drill.specs.declared.handles.TheConstants.{HALF, PAIR}
 use Rattle.must_drill.specs.Calls.{done, mates_of, split, pair, receive, send, wait, sum}
 

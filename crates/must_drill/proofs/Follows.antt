@@ -1,6 +1,6 @@
 -- Calls that follow each other in a stream: what each adds to the handles.
-use Rattle.std.proofs.Common.{◌≡◌, ℕ, zero, suc, ◌+◌, ◌≤◌, ◌<◌, Bool, true, false, not, cond, ltb, List, [], ◌∷◌, ◌++◌, length, Option, Some, None, refl, sym, ap, subst, ◌∙◌, arith, append_assoc, append-nil, length-append}
-use Rattle.std.specs.List.{filter, list_any}
+use Rattle.std.proofs.Common.{◌≡◌, ℕ, ◌+◌, ◌≤◌, Bool, true, false, not, cond, List, [], ◌∷◌, ◌++◌, length, Option, Some, None, refl, sym, ap, subst, ◌∙◌, arith, length-append}
+use Rattle.std.specs.List.{filter}
 use Rattle.std.proofs.lemmas.Bool.{eq-eqb, le-ltb}
 use Rattle.std.proofs.lemmas.List.Elements.{filter-append}
 use Rattle.std.proofs.lemmas.List.Folds.{list_any-append}
@@ -52,9 +52,9 @@ steady_more : (rank n next after : ℕ) (before : List Call) (call : Call) → S
 steady_more rank n next after before call s c = record {
   returned = list_any-append (λ (x : Call). not x.returned) before (call ∷ []) ∙ rw (s.returned, c.returned) refl;
   handle =
-  let grown : length (filter makes (before ++ call ∷ [])) ≡ length (filter makes before) + made_by call =
-  ap length (filter-append makes before (call ∷ [])) ∙ length-append (filter makes before) (filter makes (call ∷ [])) ∙ ap (λ (k : ℕ). length (filter makes before) + k) (one_made call (makes call) refl) in
-  omega (arith, grown, s.handle, c.moves);
+      let grown : length (filter makes (before ++ call ∷ [])) ≡ length (filter makes before) + made_by call =
+      ap length (filter-append makes before (call ∷ [])) ∙ length-append (filter makes before) (filter makes (call ∷ [])) ∙ ap (λ (k : ℕ). length (filter makes before) + k) (one_made call (makes call) refl) in
+      omega (arith, grown, s.handle, c.moves);
 }
 
 spells_record : (call : Call) → IsSpellable call → Spells call (record_of call)

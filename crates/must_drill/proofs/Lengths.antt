@@ -1,5 +1,5 @@
 -- The stream of each rank is within the limits of bytes and calls.
-use Rattle.std.proofs.Common.{◌≡◌, ℕ, zero, suc, ◌+◌, ◌*◌, ◌≤◌, ◌<◌, ◌/◌, List, [], ◌∷◌, ◌++◌, length, refl, arith, length-append}
+use Rattle.std.proofs.Common.{◌≡◌, ℕ, zero, suc, ◌*◌, ◌≤◌, ◌<◌, ◌/◌, [], ◌++◌, length, refl, arith, length-append}
 use Rattle.std.proofs.lemmas.Nat.{le-div}
 use Rattle.must_call.specs.declared.field.Item.TheVariants as item
 use Rattle.must_call.specs.declared.body.Body.TheVariants.{Frame, Derive}
@@ -10,7 +10,7 @@ use Rattle.must_format.specs.Values.{u32, u64, i32, i64}
 use Rattle.must_format.specs.ItemLaws.{length-items}
 use Rattle.must_format.specs.Payload.{payload_text}
 use Rattle.must_format.specs.Spelling.{end_text}
-use Rattle.must_format.specs.Stream.{header_text, byte_limit, call_limit, whose, Accepted}
+use Rattle.must_format.specs.Stream.{header_text, whose, Accepted}
 use Rattle.must_format.specs.CompleteLaws.{complete_accepted}
 use Rattle.must_drill.specs.declared.round.Round.{Round}
 use Rattle.must_drill.specs.declared.handles.TheConstants.{PAIR}

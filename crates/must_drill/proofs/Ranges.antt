@@ -1,13 +1,12 @@
 -- Lists that grow by one.
-use Rattle.std.proofs.Common.{◌≡◌, ℕ, zero, suc, ◌+◌, ◌*◌, ◌≤◌, ◌<◌, ◌%◌, ◌==◌, Bool, true, false, cond, List, [], ◌∷◌, ◌++◌, map, length, refl, sym, ap, ◌∙◌, arith, append_assoc, append-nil, add-one, length-append}
-use Rattle.std.specs.List.{range_with_len, filter, flat_map}
+use Rattle.std.proofs.Common.{◌≡◌, ℕ, zero, suc, ◌+◌, ◌*◌, ◌<◌, ◌%◌, ◌==◌, Bool, true, false, cond, List, [], ◌∷◌, ◌++◌, map, length, refl, sym, ap, ◌∙◌, arith, append_assoc, add-one, length-append}
+use Rattle.std.specs.List.{range_with_len, filter}
 use Rattle.std.proofs.lemmas.Grind.{flat_map-append}
 use Rattle.std.proofs.lemmas.List.{map-append}
 use Rattle.std.proofs.lemmas.List.Elements.{filter-append}
 use Rattle.std.proofs.lemmas.List.FromFn.{map-range_with_len_more, length-map-range_with_len, get_or-map-range_with_len}
 use Rattle.std.proofs.lemmas.Option.{slice_get-get_or}
 use Rattle.std.specs.Prelude.{slice_get, Option, Some}
-use Rattle.must_call.specs.declared.call.Call.{Call}
 use Rattle.must_format.specs.Spelling.{end_text}
 use Rattle.must_format.specs.Stream.{header_text}
 use Rattle.must_drill.specs.declared.round.Round.{Round}
@@ -67,7 +66,7 @@ whole_stream ranks rounds number rank a b c d e ha hb hc hd he =
     flat_map-append record_of (opening ranks rank) (rounds_of ranks number rank rounds ++ closing) ∙ ap (λ (xs : List ℕ). first ++ xs) (flat_map-append record_of (rounds_of ranks number rank rounds) closing) in
     let d_is : d ≡ head ++ records_of (calls_of ranks rounds number rank) =
     hd ∙ ap (λ (xs : List ℕ). xs ++ close) (hc ∙ ap (λ (xs : List ℕ). xs ++ rounds_text) (hb ∙ ap (λ (xs : List ℕ). xs ++ first) ha))
-        ∙ append_assoc (head ++ first) rounds_text close ∙ append_assoc head first (rounds_text ++ close) ∙ ap (λ (xs : List ℕ). head ++ xs) (sym all) in
+    ∙ append_assoc (head ++ first) rounds_text close ∙ append_assoc head first (rounds_text ++ close) ∙ ap (λ (xs : List ℕ). head ++ xs) (sym all) in
     he ∙ ap (λ (xs : List ℕ). xs ++ end_text (7 + 6 * rounds)) d_is ∙ append_assoc head (records_of (calls_of ranks rounds number rank)) (end_text (7 + 6 * rounds))
     ∙ ap (λ (n : ℕ). head ++ (records_of (calls_of ranks rounds number rank) ++ end_text n)) (sym (length-calls ranks rounds number rank))
 

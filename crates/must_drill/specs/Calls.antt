@@ -1,10 +1,9 @@
 -- The calls of a generated run (docs/DRILL.md).
-use Rattle.std.specs.Prelude.{ℕ, zero, suc, ◌+◌, ◌%◌, ◌==◌, ℤ, pos, negsuc, Bool, true, false, List, [], ◌∷◌, ◌++◌, filter, Some}
+use Rattle.std.specs.Prelude.{ℕ, zero, suc, ◌+◌, ◌%◌, ◌==◌, pos, true, false, List, [], ◌∷◌, ◌++◌, filter, Some}
 use Rattle.std.specs.List.{range_with_len}
 use Rattle.must_call.specs.declared.constants.TheConstants.{COMM_WORLD, ANY_SOURCE, ANY_TAG}
 use Rattle.must_call.specs.declared.status.Status3.{Status3}
 use Rattle.must_call.specs.declared.items.StructBlock.{StructBlock}
-use Rattle.must_call.specs.declared.items.MadeComm.{MadeComm}
 use Rattle.must_call.specs.declared.body.Body.{Body}
 use Rattle.must_call.specs.declared.body.Body.TheVariants.{Frame, Point, Finish, Derive, Object, Collective}
 use Rattle.must_call.specs.declared.frame.Frame.TheVariants.{Init, Finalize}

@@ -1,5 +1,5 @@
 -- The streams of a generated run (docs/DRILL.md).
-use Rattle.std.specs.Prelude.{ℕ, pos, List, ◌++◌, length, map}
+use Rattle.std.specs.Prelude.{ℕ, List, ◌++◌, length, map}
 use Rattle.std.specs.List.{flat_map, range_with_len}
 use Rattle.must_call.specs.declared.call.Call.{Call}
 use Rattle.must_call.specs.Kinds.{kind_of}

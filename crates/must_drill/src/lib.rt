@@ -6,7 +6,6 @@
 #![tactic(auto)]
 
 mod calls;
-
 mod handles;
 mod laws;
 mod numbers;

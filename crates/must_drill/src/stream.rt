@@ -33,7 +33,11 @@ fn put_opening(alloc: Global, out: &mut Vec<u8>, ranks: u32, rank: u32) -> Resul
     put_call(alloc, out, done(Body::Frame(Frame::Init)))?;
     put_call(alloc, out, split(alloc, ranks, rank)?)?;
     put_call(alloc, out, pair(alloc)?)?;
-    put_call(alloc, out, done(Body::Derive(Derive::TypeCommit { dtype: PAIR })))
+    put_call(
+        alloc,
+        out,
+        done(Body::Derive(Derive::TypeCommit { dtype: PAIR })),
+    )
 }
 
 fn put_round(alloc: Global, out: &mut Vec<u8>, round: Round) -> Result<(), NoMemory>
@@ -79,8 +83,16 @@ fn put_rounds(
 fn put_closing(alloc: Global, out: &mut Vec<u8>) -> Result<(), NoMemory>
     ensures { OnOk result (out.new.items ≡ out.old.items ++ records_of closing) }
 {
-    put_call(alloc, out, done(Body::Derive(Derive::TypeFree { dtype: PAIR })))?;
-    put_call(alloc, out, done(Body::Object(Object::CommFree { comm: HALF })))?;
+    put_call(
+        alloc,
+        out,
+        done(Body::Derive(Derive::TypeFree { dtype: PAIR })),
+    )?;
+    put_call(
+        alloc,
+        out,
+        done(Body::Object(Object::CommFree { comm: HALF })),
+    )?;
     put_call(alloc, out, done(Body::Frame(Frame::Finalize)))
 }
 

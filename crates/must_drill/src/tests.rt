@@ -5,7 +5,9 @@ mod streams;
 use crate::numbers::next_state;
 use crate::{accepted_run, complete_run, drill, streams_in_order};
 use must_base::MemSource;
-use must_call::{Body, Call, Collective, Derive, Finish, Frame, Object, Point, Status3, StructBlock};
+use must_call::{
+    Body, Call, Collective, Derive, Finish, Frame, Object, Point, Status3, StructBlock,
+};
 use must_codec::{Expect, StreamReader};
 use std::alloc::Global;
 use std::process::Abort;
@@ -166,7 +168,10 @@ fn is_send(call: &Call, to: i32, with: i32, made: u32) -> bool {
 fn calls_of_a_round(rt: HostRuntime) -> Result<(), Fail> {
     let alloc = rt.alloc();
     let calls = calls_of(&rt, alloc, 4, 5, 7, 0)?;
-    let (_, last) = calls.as_slice().split_at_checked(28).ok_or("too few calls")?;
+    let (_, last) = calls
+        .as_slice()
+        .split_at_checked(28)
+        .ok_or("too few calls")?;
     let [first, second, third, fourth, wait, sum, ..] = last else {
         return Err("too few calls".into());
     };
@@ -183,25 +188,30 @@ fn calls_of_a_round(rt: HostRuntime) -> Result<(), Fail> {
     else {
         return Err("another call".into());
     };
-    assert_eq!(rt; requests.items(), &[82, 83, 84, 85]);
+    assert_eq!(rt; requests.items(), [82, 83, 84, 85].as_slice());
     let status = |source, tag| Status3 {
         source,
         tag,
         cancelled: false,
     };
-    assert_eq!(rt; statuses.items(), &[status(3, 1), status(1, 2), status(-2, -1), status(-2, -1)]);
-    assert!(rt; matches!(
-        sum.body,
-        Body::Collective(Collective::Allreduce {
-            in_place: false,
-            sbuf: 327_680,
-            rbuf: 393_216,
-            count: 10,
-            dtype: 7,
-            op: 3,
-            comm: 64
-        })
-    ));
+    assert_eq!(rt;
+        statuses.items(),
+        [status(3, 1), status(1, 2), status(-2, -1), status(-2, -1)].as_slice()
+    );
+    assert!(rt;
+        matches!(
+            sum.body,
+            Body::Collective(Collective::Allreduce {
+                in_place: false,
+                sbuf: 327_680,
+                rbuf: 393_216,
+                count: 10,
+                dtype: 7,
+                op: 3,
+                comm: 64
+            })
+        )
+    );
     Ok(())
 }
 
@@ -240,7 +250,7 @@ fn calls_around_the_rounds(rt: HostRuntime) -> Result<(), Fail> {
         disp,
         old,
     };
-    assert_eq!(rt; blocks.items(), &[block(0, 7), block(4, 1)]);
+    assert_eq!(rt; blocks.items(), [block(0, 7), block(4, 1)].as_slice());
     assert!(rt; matches!(commit.body, Body::Derive(Derive::TypeCommit { dtype: 65 })));
     assert!(rt; matches!(type_free.body, Body::Derive(Derive::TypeFree { dtype: 65 })));
     assert!(rt; matches!(comm_free.body, Body::Object(Object::CommFree { comm: 64 })));

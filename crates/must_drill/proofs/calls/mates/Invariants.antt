@@ -1,4 +1,4 @@
-use Rattle.std.proofs.Common.{◌≡◌, ℕ, ◌%◌}
+use Rattle.std.proofs.Common.{◌≡◌}
 use Rattle.must_drill.specs.Calls.{mates_of}
 use Rattle.must_drill.proofs.calls.mates.Given as goal
 

@@ -1,4 +1,4 @@
-use Rattle.std.proofs.Common.{◌≡◌, ℕ, ◌++◌}
+use Rattle.std.proofs.Common.{◌≡◌, ◌++◌}
 use Rattle.must_drill.specs.Numbers.{state_at}
 use Rattle.must_drill.specs.Calls.{rounds_of}
 use Rattle.must_drill.specs.Streams.{records_of}
