@@ -1,5 +1,5 @@
 -- What nodes close with, put together.
-use Rattle.std.proofs.Common.{◌≡◌, Bool, List, [], ◌∷◌, ◌++◌, Option, Some, None, Result, Ok, Err, IfOk, refl, sym, ap, ◌∙◌, inl, inr}
+use Rattle.std.proofs.Common.{◌≡◌, List, ◌++◌, Some, None, ap, ◌∙◌, inl, inr}
 use Rattle.std.specs.Prelude.{◌⊎◌, ◌↔◌}
 use Rattle.must_base.specs.Listing.{Has}
 use Rattle.must_find.specs.declared.finding.Finding.{Finding}
@@ -7,9 +7,7 @@ use Rattle.must_entry.specs.declared.entry.Entry.{Entry}
 use Rattle.must_node.specs.declared.closed.Closed.{Closed}
 use Rattle.must_node.specs.declared.fact.Fact.{Fact}
 use Rattle.must_node.specs.Closing.{Settles}
-use Rattle.must_node.specs.Facts.{facts_of}
-use Rattle.must_levels.specs.declared.fault.TreeFault.{TreeFault}
-use Rattle.must_levels.specs.Telling.{HasRow, facts_in, AreBoth, Adds}
+use Rattle.must_levels.specs.Telling.{Adds}
 
 pub none_adds : (closed : Closed) (entries : List Entry) → Settles closed entries → Adds None entries (Some closed)
 none_adds closed entries s = record {

@@ -1,6 +1,5 @@
 -- Steps of a node, over plain variables.
-use Rattle.std.proofs.Common.{◌≡◌, ℕ, Bool, true, false, List, [], ◌∷◌, ◌++◌, Option, Some, None, Result, Ok, Err, IfOk, refl, sym, ap, ◌∙◌, subst, append_assoc}
-use Rattle.std.proofs.lemmas.List.{append-nil}
+use Rattle.std.proofs.Common.{◌≡◌, ℕ, Bool, true, false, List, [], ◌∷◌, ◌++◌, Option, Some, Result, Ok, Err, IfOk, refl, sym, ap, ◌∙◌, subst}
 use Rattle.must_entry.specs.declared.batch.Batch.{Batch}
 use Rattle.must_entry.specs.declared.range.RankRange.{RankRange}
 use Rattle.must_entry.specs.Lawful.{IsLawful}
@@ -14,12 +13,12 @@ use Rattle.must_inbox.specs.States.{TakerState, PortState}
 use Rattle.must_node.specs.declared.node.Node.{Node}
 use Rattle.must_node.specs.declared.closed.Closed.{Closed}
 use Rattle.must_node.specs.Inner.{inner}
-use Rattle.must_levels.specs.declared.fault.TreeFault.{TreeFault}
+use Rattle.must_levels.specs.declared.fault.RunFault.{RunFault}
 use Rattle.must_levels.specs.Telling.{Adds}
 use Rattle.must_node.specs.HandingLaws.{handed_lawful}
 use Rattle.must_node.specs.Nodes.{StandsFor, all_up}
 use Rattle.must_levels.specs.Sending.{IsMoved}
-use Rattle.must_levels.specs.Running.{CanPass, Passed, CanTake, HasTaken, Finished}
+use Rattle.must_levels.specs.Running.{Passed, CanTake, HasTaken, Finished}
 
 none_up : (range : RankRange) (bs : List Batch) → all_up true range bs ≡ []
 none_up range [] = refl
@@ -106,7 +105,7 @@ taken_twice t u v p q r a b = record {
   port_is = moved_twice p q r a.port_is b.port_is;
 }
 
-pub finished : (root : Bool) (ranges : List RankRange) (joined : List (ℕ × List Batch)) (below : Option Closed) (t : TakerState) (n : Node) (p : PortState) (r : Result Closed TreeFault) → Passed root t n p → IsOrderly t.ranges t.got → HasAll t.joined t.got → t.ranges ≡ ranges → t.joined ≡ joined
+pub finished : (root : Bool) (ranges : List RankRange) (joined : List (ℕ × List Batch)) (below : Option Closed) (t : TakerState) (n : Node) (p : PortState) (r : Result Closed RunFault) → Passed root t n p → IsOrderly t.ranges t.got → HasAll t.joined t.got → t.ranges ≡ ranges → t.joined ≡ joined
     → IfOk r (λ all. Adds below (inner root p.range (entries_of (batches_of t.got))) (Some all)) → IfOk r (λ closed. Finished root ranges joined below p (Some closed))
 finished root ranges joined below t n p (Err e) passed o all same_ranges same_joined adds = tt
 finished root ranges joined below t n p (Ok closed) passed o all same_ranges same_joined adds = record {

@@ -1,17 +1,18 @@
 -- A node and all below it.
-use Rattle.std.proofs.Common.{◌≡◌, ℕ, zero, suc, ◌+◌, ◌*◌, ◌^◌, ◌<◌, ◌≤◌, Bool, true, false, List, [], ◌∷◌, ◌++◌, length, map, take, drop, Option, Some, None, Result, Ok, Err, OnOk, IfOk, refl, sym, ap, ◌∙◌, subst, arith}
+use Rattle.std.proofs.Common.{◌≡◌, ℕ, ◌+◌, ◌^◌, ◌≤◌, Bool, List, [], length, map, Option, Some, Result, Ok, Err, IfOk, refl, sym, ap, ◌∙◌, subst, arith}
 use Rattle.std.specs.Prelude.{◌↔◌}
 use Rattle.std.specs.List.{AllByRecursion, flat_map}
 use Rattle.std.specs.declared.alloc.Global.{Global}
 use Rattle.crossbeam_queue.specs.SegTies.{SegId}
-use Rattle.must_find.specs.Rearranged.{Rearranges, back, through, from_equal, flat_mapped}
+use Rattle.must_find.specs.Rearranged.{Rearranges, through, from_equal, flat_mapped}
+use Rattle.must_format.specs.declared.fault.StreamFault.{StreamFault}
 use Rattle.must_entry.specs.declared.entry.Entry.{Entry}
 use Rattle.must_entry.specs.declared.batch.Batch.{Batch}
 use Rattle.must_entry.specs.declared.range.RankRange.{RankRange}
 use Rattle.must_coll.specs.Waves as waves
 use Rattle.must_entry.specs.Entries.{entries_of, calls}
-use Rattle.must_entry.specs.Lawful.{in_range, IsLawful}
-use Rattle.must_inbox.specs.Children.{batches_of, AreCovered, IsOrderly, HasAll}
+use Rattle.must_entry.specs.Lawful.{IsLawful}
+use Rattle.must_inbox.specs.Children.{batches_of, AreCovered}
 use Rattle.must_inbox.specs.ChildLaws.{together}
 use Rattle.must_inbox.specs.RankLaws.{lawful_none}
 use Rattle.must_inbox.specs.States.{TakerState, PortState}
@@ -22,33 +23,33 @@ use Rattle.must_node.specs.Facts.{facts_of}
 use Rattle.must_node.specs.Inner.{inner, outer}
 use Rattle.must_node.specs.Levels.{Part, IsInside, all_given}
 use Rattle.must_node.specs.Nodes.{StandsFor, all_up}
-use Rattle.must_levels.specs.declared.fault.TreeFault.{TreeFault}
-use Rattle.must_levels.specs.declared.fault.TreeFault.TheVariants as fault
-use Rattle.must_levels.specs.Producing.{AreWhole, AreRankLists, batches_in}
-use Rattle.must_levels.specs.Sending.{ArePorts, ArePlaced, AreOfInbox, IsMoved, AreMoved, range_of_port, closing_of}
-use Rattle.must_levels.specs.Telling.{HasRow, facts_in, IsNoMemory, Adds, parts_with}
-use Rattle.must_levels.specs.Running.{IsShape, CanRun, CanRunAll, CanTake, HasTaken, Passed, Finished, AllSettled, IsAnswerOfAll, RanAll, NodeSettled, IsNodeAnswer, RanNode}
-use Rattle.must_levels.proofs.PortLists.{of_inbox, moved_length, moved_inbox, moved_placed, moved_ranges, ranges_length, lent, covered_ports}
-use Rattle.must_levels.proofs.Moves.{moved_twice, range_stays}
+use Rattle.must_levels.specs.declared.fault.RunFault.{RunFault}
+use Rattle.must_levels.specs.declared.fault.RunFault.TheVariants as fault
+use Rattle.must_levels.specs.Readers.{AreSince, AreRankLists, batches_in}
+use Rattle.must_levels.specs.Sending.{ArePorts, ArePlaced, IsMoved, AreMoved, range_of_port, closing_of}
+use Rattle.must_levels.specs.Telling.{HasRow, facts_in, IsNoMemory, parts_with}
+use Rattle.must_levels.specs.Running.{CanRun, CanRunAll, CanTake, Finished, AllSettled, IsAnswerOfAll, RanAll, NodeSettled, RanNode}
+use Rattle.must_levels.proofs.PortLists.{moved_length, moved_placed, ranges_length, covered_ports}
 use Rattle.must_levels.proofs.RankLists.{whole_length, lists_lawful}
 use Rattle.must_levels.proofs.Shapes.{power_pos, power_more}
 use Rattle.must_levels.proofs.Gathered.{gathered}
-use Rattle.must_levels.proofs.Settling.{Lists, all_lists, lefts, up_entries, given_all, sent_all, ranks_of_all, parts_inside, parts_apart, settled_rows, settled_facts, settled_left, settled_needs}
+use Rattle.must_levels.proofs.Settling.{all_lists, lefts, up_entries, given_all, sent_all, ranks_of_all, parts_inside, parts_apart, settled_rows, settled_facts, settled_left, settled_needs}
 
 -- ---- the children of a node
 
-pub can_children : {P : Type 0} (rank : P → ℕ) (gave : P → P → List Batch → Type 0) (upper i : SegId Global) (from : ℕ) (xs : List P) (width to level fan_in : ℕ) (p : PortState) (ps : List PortState) → CanRun rank gave upper from xs (level + 1) fan_in p → to ≡ from + length xs → width ≡ fan_in ^ level → ArePorts i width to to from ps → length ps ≤ 64
-    → CanRunAll rank gave i from xs width level fan_in ps
-can_children rank gave upper i from xs width to level fan_in p ps can to_is width_is are few =
+pub can_children : {S : Type 0} (ready : S → Type 0) (size : ℕ) (upper i : SegId Global) (from : ℕ) (xs : List S) (width to level fan_in : ℕ) (p : PortState) (ps : List PortState) → CanRun ready size upper from xs (level + 1) fan_in p → to ≡ from + length xs → width ≡ fan_in ^ level → ArePorts i width to to from ps → length ps ≤ 64
+    → CanRunAll ready size i from xs width level fan_in ps
+can_children ready size upper i from xs width to level fan_in p ps can to_is width_is are few =
     let more = power_more fan_in level can.shape.least in
     let pos = power_pos fan_in level can.shape.least in
     let power = can.shape.power in record {
-      ready = can.ready;
+      unread = can.unread;
       ports = subst (λ n. ArePorts i width n n from ps) to_is are;
       width_is = width_is;
       power = omega (arith, more, power, width_is);
       some_width = omega (arith, pos, width_is);
       small = can.shape.small;
+      limit = can.shape.limit;
       least = can.shape.least;
       most = can.shape.most;
       few = few;
@@ -58,8 +59,8 @@ can_children rank gave upper i from xs width to level fan_in p ps can to_is widt
 pub new_port : (p : PortState) → p.sent ≡ [] → IsMoved p p
 new_port p e = (refl, subst (IsLawful p.range) (sym e) (lawful_none p.range))
 
-pub no_memory : {P : Type 0} (root : Bool) (whole : P → P → List Batch → Type 0) (failed : P → P → Type 0) (from : ℕ) (xs xs' : List P) (p q : PortState) (r : Result Closed TreeFault) → r ≡ Err fault.NoMemory → IsMoved p q → RanNode root whole failed from xs xs' p q r
-no_memory root whole failed from xs xs' p q r e moved = subst (λ w. RanNode root whole failed from xs xs' p q w) (sym e) (record { answer = tt; port = moved })
+pub no_memory : {S : Type 0} (root : Bool) (whole : ℕ → S → S → List Batch → Type 0) (failed : ℕ → S → S → StreamFault → Type 0) (since : S → S → Type 0) (from : ℕ) (xs xs' : List S) (p q : PortState) (r : Result Closed RunFault) → r ≡ Err fault.NoMemory → AreSince since xs xs' → IsMoved p q → RanNode root whole failed since from xs xs' p q r
+no_memory root whole failed since from xs xs' p q r e after moved = subst (λ w. RanNode root whole failed since from xs xs' p q w) (sym e) (record { answer = tt; parts = after; port = moved })
 
 pub can_take : (root : Bool) (i upper : SegId Global) (width to from : ℕ) (t : TakerState) (n : Node) (p : PortState) (ps : List PortState) → t ≡ record { inbox = i; ranges = map range_of_port ps; joined = []; got = [] } → p.inbox ≡ upper → p.sent ≡ [] → p.range ≡ record { from = from; to = to } → ArePorts i width to to from ps
     → StandsFor n (record { from = from; to = to }) root [] [] → CanTake root i upper t n p
@@ -77,13 +78,13 @@ can_take root i upper width to from t n p ps made inbox fresh range are stands =
 
 -- ---- what a node answers
 
-module _ {P : Type 0} (root : Bool) (whole : P → P → List Batch → Type 0) (failed : P → P → Type 0) (level from to width : ℕ) (i : SegId Global) (xs xs' : List P) (ps qs : List PortState) (q : PortState) (are : ArePorts i width to to from ps) (placed : ArePlaced 0 ps) (moved : AreMoved ps qs) (range : q.range ≡ record { from = from; to = to }) (to_is : to ≡ from + length xs) where
-  node_settled : (below closed : Option Closed) → AllSettled whole level xs xs' qs below → Finished root (map range_of_port ps) (map closing_of qs) below q closed → NodeSettled root whole xs xs' q closed
+module _ {S : Type 0} (root : Bool) (whole : ℕ → S → S → List Batch → Type 0) (failed : ℕ → S → S → StreamFault → Type 0) (since : S → S → Type 0) (level from to width : ℕ) (i : SegId Global) (xs xs' : List S) (ps qs : List PortState) (q : PortState) (are : ArePorts i width to to from ps) (placed : ArePlaced 0 ps) (moved : AreMoved ps qs) (range : q.range ≡ record { from = from; to = to }) (to_is : to ≡ from + length xs) where
+  node_settled : (below closed : Option Closed) → AllSettled whole level from xs xs' qs below → Finished root (map range_of_port ps) (map closing_of qs) below q closed → NodeSettled root whole from xs xs' q closed
   node_settled below closed s f =
       let lists = all_lists s.groups in
       let parts = parts_with qs s.groups in
       let taken = entries_of (batches_of f.got) in
-      let long : length lists ≡ length xs = whole_length whole xs xs' lists s.all in
+      let long : length lists ≡ length xs = whole_length whole from xs xs' lists s.all in
       let low : q.range.from ≡ from = ap (λ (r : RankRange). r.from) range in
       let high : q.range.to ≡ to = ap (λ (r : RankRange). r.to) range in
       let ranks : AreRankLists q.range.from lists = subst (λ n. AreRankLists n lists) (sym low) (ranks_of_all level i width to to from ps qs s.groups are moved s.hand) in
@@ -108,14 +109,6 @@ module _ {P : Type 0} (root : Bool) (whole : P → P → List Batch → Type 0) 
         needs = settled_needs root q.range parts (batches_of f.got) below closed level f.adds s.tells law.needs;
       }
 
-  pub ended : (p : PortState) (below : Option Closed) (ran : Result (Option Closed) TreeFault) (r : Result Closed TreeFault) → ran ≡ Ok below → IsMoved p q → RanAll whole failed level from xs xs' ps qs ran → IfOk r (λ closed. Finished root (map range_of_port ps) (map closing_of qs) below q (Some closed)) → IsNoMemory r → RanNode root whole failed from xs xs' p q r
-  ended p below ran (Ok closed) is port_moved all f none = record { answer = node_settled below (Some closed) (subst (IsAnswerOfAll whole failed level from xs xs' qs) is all.answer) f; port = port_moved }
-  ended p below ran (Err e) is port_moved all f none = no_memory root whole failed from xs xs' p q (Err e) (ap (λ (w : TreeFault). Err w) none) port_moved
-
-fault_stays : {P : Type 0} (root : Bool) (whole : P → P → List Batch → Type 0) (failed : P → P → Type 0) (level from : ℕ) (xs xs' : List P) (qs : List PortState) (q : PortState) (e : TreeFault) → IsAnswerOfAll whole failed level from xs xs' qs (Err e) → IsNodeAnswer root whole failed from xs xs' q (Err e)
-fault_stays root whole failed level from xs xs' qs q (fault.Rank rank) a = a
-fault_stays root whole failed level from xs xs' qs q fault.NoMemory a = tt
-
--- a fault below is that of the node
-pub faulty : {P : Type 0} (root : Bool) (whole : P → P → List Batch → Type 0) (failed : P → P → Type 0) (level from : ℕ) (xs xs' : List P) (ps qs : List PortState) (p q : PortState) (e : TreeFault) (ran : Result (Option Closed) TreeFault) → ran ≡ Err e → IsMoved p q → RanAll whole failed level from xs xs' ps qs ran → RanNode root whole failed from xs xs' p q (Err e)
-faulty root whole failed level from xs xs' ps qs p q e ran is moved all = record { answer = fault_stays root whole failed level from xs xs' qs q e (subst (IsAnswerOfAll whole failed level from xs xs' qs) is all.answer); port = moved }
+  pub ended : (p : PortState) (below : Option Closed) (ran : Result (Option Closed) RunFault) (r : Result Closed RunFault) → ran ≡ Ok below → IsMoved p q → RanAll whole failed since level from xs xs' ps qs ran → IfOk r (λ closed. Finished root (map range_of_port ps) (map closing_of qs) below q (Some closed)) → IsNoMemory r → RanNode root whole failed since from xs xs' p q r
+  ended p below ran (Ok closed) is port_moved all f none = record { answer = node_settled below (Some closed) (subst (IsAnswerOfAll whole failed level from xs xs' qs) is all.answer) f; parts = all.parts; port = port_moved }
+  ended p below ran (Err e) is port_moved all f none = no_memory root whole failed since from xs xs' p q (Err e) (ap (λ (w : RunFault). Err w) none) all.parts port_moved

@@ -1,19 +1,17 @@
 -- The ports of a node's children, one by one.
 use native.Mathlib.Decide.{dec_le}
-use Rattle.std.proofs.Common.{◌≡◌, ◌⊎◌, inl, inr, suc-mul, add-one, lt_of_not-le, ℕ, zero, suc, ◌+◌, ◌*◌, ◌<◌, ◌≤◌, true, List, [], ◌∷◌, ◌++◌, length, map, min, take, drop, Some, None, refl, sym, ap, ◌∙◌, subst, append_assoc, arith}
-use Rattle.std.specs.Prelude.{slice_get, nat_le, nat_lt}
+use Rattle.std.proofs.Common.{◌≡◌, ◌⊎◌, inl, inr, suc-mul, add-one, lt_of_not-le, ℕ, zero, suc, ◌+◌, ◌*◌, ◌<◌, ◌≤◌, true, List, [], ◌∷◌, ◌++◌, length, map, min, take, drop, Some, None, refl, sym, ap, ◌∙◌, subst, arith}
+use Rattle.std.specs.Prelude.{nat_le, nat_lt}
 use Rattle.std.proofs.lemmas.Bool.{and_parts, and_from, leb-true, ltb-true, le-leb, lt-ltb}
-use Rattle.std.proofs.lemmas.List.{length-append}
 use Rattle.std.specs.List.{AllByRecursion}
 use Rattle.std.specs.declared.alloc.Global.{Global}
 use Rattle.crossbeam_queue.specs.SegTies.{SegId}
-use Rattle.must_entry.specs.declared.batch.Batch.{Batch}
 use Rattle.must_entry.specs.declared.range.RankRange.{RankRange}
-use Rattle.must_entry.specs.Lawful.{in_range, IsLawful}
+use Rattle.must_entry.specs.Lawful.{in_range}
 use Rattle.must_inbox.specs.Children.{IsApartFrom, AreCovered}
 use Rattle.must_inbox.specs.ListLaws.{all_join}
 use Rattle.must_inbox.specs.States.{PortState}
-use Rattle.must_levels.specs.Sending.{ArePorts, ArePlaced, AreOfInbox, IsMoved, AreMoved, range_of_port, closing_of}
+use Rattle.must_levels.specs.Sending.{ArePorts, ArePlaced, AreOfInbox, AreMoved, range_of_port}
 
 -- ---- ranges
 

@@ -1,60 +1,72 @@
 -- Lists of several ranks: what all give, and that they are lawful together.
-use Rattle.std.proofs.Common.{◌≡◌, ℕ, zero, suc, ◌+◌, ◌<◌, ◌≤◌, Bool, true, false, cond, List, [], ◌∷◌, ◌++◌, length, Option, Some, None, refl, sym, ap, ◌∙◌, subst, inl, inr, append_assoc, arith}
-use Rattle.std.specs.Prelude.{filter, ◌⊎◌, ◌==◌}
-use Rattle.std.specs.List.{AllByRecursion, flat_map}
-use Rattle.std.proofs.lemmas.Bool.{cases_eq, eqb-true, eq-eqb, ne_eqb}
-use Rattle.std.proofs.lemmas.List.{append-nil, length-append}
+use Rattle.std.proofs.Common.{◌≡◌, ℕ, suc, ◌+◌, ◌<◌, ◌≤◌, false, List, [], ◌∷◌, ◌++◌, length, refl, sym, ap, ◌∙◌, subst, inl, inr, arith}
+use Rattle.std.specs.Prelude.{◌==◌}
+use Rattle.std.specs.List.{AllByRecursion}
+use Rattle.std.proofs.lemmas.Bool.{cases_eq, ne_eqb}
+use Rattle.std.proofs.lemmas.List.{append-nil}
 use Rattle.std.proofs.lemmas.List.Elements.{filter-append}
+use Rattle.must_format.specs.declared.fault.StreamFault.{StreamFault}
 use Rattle.must_entry.specs.declared.batch.Batch.{Batch}
 use Rattle.must_entry.specs.declared.range.RankRange.{RankRange}
 use Rattle.must_entry.specs.Entries.{entries_of}
-use Rattle.must_entry.specs.Lawful.{in_range, IsOf, IsBatchOf, IsLawful}
+use Rattle.must_entry.specs.Lawful.{IsBatchOf, IsLawful}
 use Rattle.must_inbox.specs.Children.{of_rank}
 use Rattle.must_inbox.specs.ListLaws.{all_join, all_weaker, flat_append}
 use Rattle.must_inbox.specs.RankLaws.{lawful_none, lawful_rank, lawful_gathered}
 use Rattle.must_node.specs.ListLaws.{none_pass}
-use Rattle.must_levels.specs.Producing.{one_rank, AreReady, AreWhole, IsLowestFault, batches_in, AreRankLists}
+use Rattle.must_levels.specs.Readers.{one_rank, AreSince, AreWhole, IsLowestFault, batches_in, AreRankLists}
 use Rattle.must_levels.proofs.PortLists.{in_from, in_to, is_in}
 
--- ---- the first child's producers, and the others
+-- ---- the first child's parts, and the others
 
-pub ready_front : {P : Type 0} (rank : P → ℕ) (gave : P → P → List Batch → Type 0) (from : ℕ) (xs ys : List P) → AreReady rank gave from (xs ++ ys) → AreReady rank gave from xs
-ready_front rank gave from [] ys r = tt
-ready_front rank gave from (x ∷ xs) ys r = (r.0, r.1, ready_front rank gave (from + 1) xs ys r.2)
+pub all_front : {S : Type 0} (Q : S → Type 0) (xs ys : List S) → AllByRecursion Q (xs ++ ys) → AllByRecursion Q xs
+all_front Q [] ys a = tt
+all_front Q (x ∷ xs) ys a = (a.0, all_front Q xs ys a.1)
 
-pub ready_rest : {P : Type 0} (rank : P → ℕ) (gave : P → P → List Batch → Type 0) (from next : ℕ) (xs ys : List P) → next ≡ from + length xs → AreReady rank gave from (xs ++ ys) → AreReady rank gave next ys
-ready_rest rank gave from next [] ys e r = subst (λ n. AreReady rank gave n ys) (let is : from ≡ next = omega (arith, e) in is) r
-ready_rest rank gave from next (x ∷ xs) ys e r = ready_rest rank gave (from + 1) next xs ys (omega (arith, e)) r.2
+pub all_rest : {S : Type 0} (Q : S → Type 0) (xs ys : List S) → AllByRecursion Q (xs ++ ys) → AllByRecursion Q ys
+all_rest Q [] ys a = a
+all_rest Q (x ∷ xs) ys a = all_rest Q xs ys a.1
 
-pub whole_both : {P : Type 0} (whole : P → P → List Batch → Type 0) (xs xs' : List P) (ls : List (List Batch)) (ys ys' : List P) (ms : List (List Batch)) → AreWhole whole xs xs' ls → AreWhole whole ys ys' ms → AreWhole whole (xs ++ ys) (xs' ++ ys') (ls ++ ms)
-whole_both whole [] [] [] ys ys' ms a b = b
-whole_both whole [] [] (l ∷ ls) ys ys' ms a b = absurd a
-whole_both whole [] (q ∷ qs) ls ys ys' ms a b = absurd a
-whole_both whole (p ∷ ps) [] ls ys ys' ms a b = absurd a
-whole_both whole (p ∷ ps) (q ∷ qs) [] ys ys' ms a b = absurd a
-whole_both whole (p ∷ ps) (q ∷ qs) (l ∷ ls) ys ys' ms a b = (a.0, whole_both whole ps qs ls ys ys' ms a.1 b)
+pub since_both : {S : Type 0} (since : S → S → Type 0) (xs xs' ys ys' : List S) → AreSince since xs xs' → AreSince since ys ys' → AreSince since (xs ++ ys) (xs' ++ ys')
+since_both since [] [] ys ys' a b = b
+since_both since [] (q ∷ qs) ys ys' a b = absurd a
+since_both since (p ∷ ps) [] ys ys' a b = absurd a
+since_both since (p ∷ ps) (q ∷ qs) ys ys' a b = (a.0, since_both since ps qs ys ys' a.1 b)
 
-pub whole_length : {P : Type 0} (whole : P → P → List Batch → Type 0) (xs xs' : List P) (ls : List (List Batch)) → AreWhole whole xs xs' ls → length ls ≡ length xs
-whole_length whole [] [] [] a = refl
-whole_length whole [] [] (l ∷ ls) a = absurd a
-whole_length whole [] (q ∷ qs) ls a = absurd a
-whole_length whole (p ∷ ps) [] ls a = absurd a
-whole_length whole (p ∷ ps) (q ∷ qs) [] a = absurd a
-whole_length whole (p ∷ ps) (q ∷ qs) (l ∷ ls) a = ap suc (whole_length whole ps qs ls a.1)
+-- parts that weren't read
+pub since_unread : {S : Type 0} (ready : S → Type 0) (since : S → S → Type 0) → ((first : S) → ready first → since first first) → (xs : List S) → AllByRecursion ready xs → AreSince since xs xs
+since_unread ready since untouched [] a = tt
+since_unread ready since untouched (x ∷ xs) a = (untouched x a.0, since_unread ready since untouched xs a.1)
 
-pub fault_front : {P : Type 0} (whole : P → P → List Batch → Type 0) (failed : P → P → Type 0) (from : ℕ) (xs xs' ys ys' : List P) (rank : ℕ) → IsLowestFault whole failed from xs xs' rank → IsLowestFault whole failed from (xs ++ ys) (xs' ++ ys') rank
-fault_front whole failed from [] xs' ys ys' rank f = absurd f
-fault_front whole failed from (p ∷ ps) [] ys ys' rank f = absurd f
-fault_front whole failed from (p ∷ ps) (q ∷ qs) ys ys' rank (inl f) = inl f
-fault_front whole failed from (p ∷ ps) (q ∷ qs) ys ys' rank (inr f) = inr (f.0, fault_front whole failed (from + 1) ps qs ys ys' rank f.1)
+pub whole_both : {S : Type 0} (whole : ℕ → S → S → List Batch → Type 0) (from next : ℕ) (xs xs' : List S) (ls : List (List Batch)) (ys ys' : List S) (ms : List (List Batch)) → next ≡ from + length xs → AreWhole whole from xs xs' ls → AreWhole whole next ys ys' ms → AreWhole whole from (xs ++ ys) (xs' ++ ys') (ls ++ ms)
+whole_both whole from next [] [] [] ys ys' ms e a b = subst (λ n. AreWhole whole n ys ys' ms) (let is : next ≡ from = omega (arith, e) in is) b
+whole_both whole from next [] [] (l ∷ ls) ys ys' ms e a b = absurd a
+whole_both whole from next [] (q ∷ qs) ls ys ys' ms e a b = absurd a
+whole_both whole from next (p ∷ ps) [] ls ys ys' ms e a b = absurd a
+whole_both whole from next (p ∷ ps) (q ∷ qs) [] ys ys' ms e a b = absurd a
+whole_both whole from next (p ∷ ps) (q ∷ qs) (l ∷ ls) ys ys' ms e a b = (a.0, whole_both whole (from + 1) next ps qs ls ys ys' ms (omega (arith, e)) a.1 b)
 
-pub fault_rest : {P : Type 0} (whole : P → P → List Batch → Type 0) (failed : P → P → Type 0) (from next : ℕ) (xs xs' : List P) (ls : List (List Batch)) (ys ys' : List P) (rank : ℕ) → next ≡ from + length xs → AreWhole whole xs xs' ls → IsLowestFault whole failed next ys ys' rank → IsLowestFault whole failed from (xs ++ ys) (xs' ++ ys') rank
-fault_rest whole failed from next [] [] [] ys ys' rank e a f = subst (λ n. IsLowestFault whole failed n ys ys' rank) (let is : next ≡ from = omega (arith, e) in is) f
-fault_rest whole failed from next [] [] (l ∷ ls) ys ys' rank e a f = absurd a
-fault_rest whole failed from next [] (q ∷ qs) ls ys ys' rank e a f = absurd a
-fault_rest whole failed from next (p ∷ ps) [] ls ys ys' rank e a f = absurd a
-fault_rest whole failed from next (p ∷ ps) (q ∷ qs) [] ys ys' rank e a f = absurd a
-fault_rest whole failed from next (p ∷ ps) (q ∷ qs) (l ∷ ls) ys ys' rank e a f = inr ((l, a.0), fault_rest whole failed (from + 1) next ps qs ls ys ys' rank (omega (arith, e)) a.1 f)
+pub whole_length : {S : Type 0} (whole : ℕ → S → S → List Batch → Type 0) (from : ℕ) (xs xs' : List S) (ls : List (List Batch)) → AreWhole whole from xs xs' ls → length ls ≡ length xs
+whole_length whole from [] [] [] a = refl
+whole_length whole from [] [] (l ∷ ls) a = absurd a
+whole_length whole from [] (q ∷ qs) ls a = absurd a
+whole_length whole from (p ∷ ps) [] ls a = absurd a
+whole_length whole from (p ∷ ps) (q ∷ qs) [] a = absurd a
+whole_length whole from (p ∷ ps) (q ∷ qs) (l ∷ ls) a = ap suc (whole_length whole (from + 1) ps qs ls a.1)
+
+pub fault_front : {S : Type 0} (whole : ℕ → S → S → List Batch → Type 0) (failed : ℕ → S → S → StreamFault → Type 0) (from : ℕ) (xs xs' ys ys' : List S) (rank : ℕ) (f : StreamFault) → IsLowestFault whole failed from xs xs' rank f → IsLowestFault whole failed from (xs ++ ys) (xs' ++ ys') rank f
+fault_front whole failed from [] xs' ys ys' rank f a = absurd a
+fault_front whole failed from (p ∷ ps) [] ys ys' rank f a = absurd a
+fault_front whole failed from (p ∷ ps) (q ∷ qs) ys ys' rank f (inl a) = inl a
+fault_front whole failed from (p ∷ ps) (q ∷ qs) ys ys' rank f (inr a) = inr (a.0, fault_front whole failed (from + 1) ps qs ys ys' rank f a.1)
+
+pub fault_rest : {S : Type 0} (whole : ℕ → S → S → List Batch → Type 0) (failed : ℕ → S → S → StreamFault → Type 0) (from next : ℕ) (xs xs' : List S) (ls : List (List Batch)) (ys ys' : List S) (rank : ℕ) (f : StreamFault) → next ≡ from + length xs → AreWhole whole from xs xs' ls → IsLowestFault whole failed next ys ys' rank f → IsLowestFault whole failed from (xs ++ ys) (xs' ++ ys') rank f
+fault_rest whole failed from next [] [] [] ys ys' rank f e a b = subst (λ n. IsLowestFault whole failed n ys ys' rank f) (let is : next ≡ from = omega (arith, e) in is) b
+fault_rest whole failed from next [] [] (l ∷ ls) ys ys' rank f e a b = absurd a
+fault_rest whole failed from next [] (q ∷ qs) ls ys ys' rank f e a b = absurd a
+fault_rest whole failed from next (p ∷ ps) [] ls ys ys' rank f e a b = absurd a
+fault_rest whole failed from next (p ∷ ps) (q ∷ qs) [] ys ys' rank f e a b = absurd a
+fault_rest whole failed from next (p ∷ ps) (q ∷ qs) (l ∷ ls) ys ys' rank f e a b = inr ((l, a.0), fault_rest whole failed (from + 1) next ps qs ls ys ys' rank f (omega (arith, e)) a.1 b)
 
 -- ---- lists of ranks
 

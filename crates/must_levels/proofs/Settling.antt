@@ -1,21 +1,20 @@
 -- What a node and all below it settle, from what its children handed up.
-use Rattle.std.proofs.Common.{◌≡◌, ℕ, zero, suc, ◌+◌, ◌<◌, ◌≤◌, Bool, true, false, cond, not, ◌&&◌, ◌||◌, List, [], ◌∷◌, ◌++◌, length, map, min, Option, Some, None, refl, sym, ap, ◌∙◌, subst, inl, inr, append_assoc, arith}
+use Rattle.std.proofs.Common.{◌≡◌, ℕ, zero, suc, ◌+◌, ◌≤◌, Bool, true, false, not, List, [], ◌∷◌, ◌++◌, length, map, min, Option, refl, sym, ap, ◌∙◌, subst, inl, inr, arith}
 use Rattle.std.specs.Prelude.{filter, ◌⊎◌, ◌↔◌}
 use Rattle.std.specs.List.{AllByRecursion, flat_map}
 use Rattle.std.specs.declared.alloc.Global.{Global}
 use Rattle.std.proofs.lemmas.Bool.{true≢false, and_parts, and_from, cases_Bool}
-use Rattle.std.proofs.lemmas.List.{append-nil}
 use Rattle.std.proofs.lemmas.List.Elements.{filter-append}
 use Rattle.crossbeam_queue.specs.SegTies.{SegId}
 use Rattle.must_find.specs.declared.finding.Finding.{Finding}
-use Rattle.must_find.specs.Rearranged.{Rearranges, as_long, same, back, through, ahead, from_equal, joined, filtered, flat_mapped}
+use Rattle.must_find.specs.Rearranged.{Rearranges, as_long, back, through, from_equal, joined, filtered, flat_mapped}
 use Rattle.must_coll.specs.Waves as waves
 use Rattle.must_entry.specs.declared.entry.Entry.{Entry}
 use Rattle.must_entry.specs.declared.entry.Entry.TheVariants.{Row, Message, Wave, Need}
 use Rattle.must_entry.specs.declared.batch.Batch.{Batch}
 use Rattle.must_entry.specs.declared.range.RankRange.{RankRange}
 use Rattle.must_entry.specs.Entries.{Waits, needs, entries_of, calls}
-use Rattle.must_entry.specs.Lawful.{in_range, IsLawful, Rise}
+use Rattle.must_entry.specs.Lawful.{in_range, Rise}
 use Rattle.must_inbox.specs.States.{PortState}
 use Rattle.must_node.specs.declared.closed.Closed.{Closed}
 use Rattle.must_node.specs.declared.fact.Fact.{Fact}
@@ -27,14 +26,14 @@ use Rattle.must_node.specs.Partners.{need_of}
 use Rattle.must_node.specs.Partners.{needs as fact_needs}
 use Rattle.must_node.specs.LevelLaws.{row_alike, facts_alike, all_none, level_rows, level_facts}
 use Rattle.must_node.specs.Levels.{Part, all_given, all_left, IsRowOfOne, all_facts, AreApart, IsInside}
-use Rattle.must_node.specs.ListLaws.{flat_append, filter_in, none_pass, all_pass}
+use Rattle.must_node.specs.ListLaws.{flat_append, filter_in, all_pass}
 use Rattle.must_node.specs.NeedLaws.{needs_told, none_below}
 use Rattle.must_node.specs.Nodes.{all_up}
 use Rattle.must_node.specs.OrderLaws.{calls_inner}
-use Rattle.must_node.specs.TreeLaws.{Child, part_of, parts_of, AreDisjoint, AreChildren, children_apart, left_calls, node_rows, node_facts}
-use Rattle.must_levels.specs.Producing.{batches_in, AreRankLists}
+use Rattle.must_node.specs.TreeLaws.{Child, AreDisjoint, AreChildren, children_apart, left_calls, node_rows, node_facts}
+use Rattle.must_levels.specs.Readers.{batches_in, AreRankLists}
 use Rattle.must_levels.specs.Sending.{ArePorts, AreMoved}
-use Rattle.must_levels.specs.Telling.{HasRow, facts_in, Adds, HandsUp, AllHandUp, Tells, left_at, nodes_at, part_with, parts_with, children_with}
+use Rattle.must_levels.specs.Telling.{HasRow, facts_in, Adds, AllHandUp, Tells, left_at, nodes_at, part_with, parts_with, children_with}
 use Rattle.must_levels.proofs.Rises.{rise_kept}
 use Rattle.must_levels.proofs.PortLists.{in_from, in_to, is_in}
 use Rattle.must_levels.proofs.RankLists.{batches_both, entries_both, ranks_both, lists_lawful}

@@ -1,9 +1,9 @@
 -- Powers of a fan-in.
-use Rattle.std.proofs.Common.{◌≡◌, ◌⊎◌, ℕ, zero, suc, ◌+◌, ◌*◌, ◌^◌, ◌<◌, ◌≤◌, min, refl, sym, ap, ◌∙◌, subst, inl, inr, arith, suc-mul, add-one, lt_of_not-le}
+use Rattle.std.proofs.Common.{◌≡◌, ℕ, zero, suc, ◌+◌, ◌*◌, ◌^◌, ◌<◌, ◌≤◌, sym, ap, ◌∙◌, subst, arith, add-one, lt_of_not-le}
 use Rattle.std.proofs.Math.Nat.{one-mul, pow-zero, mul-le-mul_left, one-le-pow, pow-suc}
 use Rattle.std.proofs.lemmas.Nat.{mul-le}
 use native.Mathlib.Decide.{dec_le}
-use Rattle.must_levels.specs.Shape.{IsTree, IsLevels, range_at}
+use Rattle.must_levels.specs.Shape.{IsTree, IsLevels}
 
 grows : (a f : ℕ) → 0 < a → 2 ≤ f → a + a ≤ a * f
 grows a f pos two = let m = mul-le-mul_left a two in let e : a * 2 ≡ a + a = omega arith in omega (arith, m, e)

@@ -1,6 +1,6 @@
 -- The tree over all ranks.
-use Rattle.std.proofs.Common.{◌≡◌, ℕ, zero, suc, ◌+◌, ◌^◌, ◌<◌, ◌≤◌, Bool, true, false, cond, List, [], ◌∷◌, ◌++◌, length, map, Option, Some, None, Result, Ok, Err, refl, sym, ap, ◌∙◌, subst, inl, inr, arith}
-use Rattle.std.specs.Prelude.{filter, ◌⊎◌, ◌↔◌, ◌==◌, slice_get}
+use Rattle.std.proofs.Common.{◌≡◌, ℕ, ◌+◌, ◌-◌, ◌^◌, ◌<◌, ◌≤◌, true, List, [], ◌∷◌, length, map, Some, Result, Ok, Err, refl, sym, ap, ◌∙◌, subst, inl, inr, arith}
+use Rattle.std.specs.Prelude.{filter, ◌↔◌, ◌==◌}
 use Rattle.std.specs.List.{AllByRecursion}
 use Rattle.std.specs.declared.alloc.Global.{Global}
 use Rattle.std.proofs.lemmas.Bool.{eqb-true}
@@ -8,14 +8,14 @@ use Rattle.crossbeam_queue.specs.SegTies.{SegId}
 use Rattle.must_base.specs.Listing.{Has}
 use Rattle.must_base.specs.ListingLaws.{all_has}
 use Rattle.must_call.specs.declared.place.Place.{Place}
-use Rattle.must_find.specs.declared.finding.Finding.{Finding}
+use Rattle.must_format.specs.declared.fault.StreamFault.{StreamFault}
 use Rattle.must_find.specs.Rearranged.{Rearranges, back, filtered, flat_mapped, still_has}
 use Rattle.must_p2p.specs.SetLaws.{has_filter}
 use Rattle.must_entry.specs.declared.entry.Entry.{Entry}
 use Rattle.must_entry.specs.declared.batch.Batch.{Batch}
 use Rattle.must_entry.specs.declared.range.RankRange.{RankRange}
-use Rattle.must_entry.specs.Entries.{Waits, needs, entries_of}
-use Rattle.must_entry.specs.Lawful.{in_range, IsLawful, Rise}
+use Rattle.must_entry.specs.Entries.{Waits, entries_of}
+use Rattle.must_entry.specs.Lawful.{IsLawful, Rise}
 use Rattle.must_inbox.specs.States.{PortState}
 use Rattle.must_node.specs.declared.closed.Closed.{Closed}
 use Rattle.must_node.specs.EntryRows.{IsRow}
@@ -23,17 +23,17 @@ use Rattle.must_node.specs.Facts.{facts_of}
 use Rattle.must_node.specs.Inner.{inner}
 use Rattle.must_node.specs.ListLaws.{all_pass}
 use Rattle.must_node.specs.NeedLaws.{needs_told}
-use Rattle.must_node.specs.Partners.{need_of, needs_of_rank}
+use Rattle.must_node.specs.Partners.{need_of}
 use Rattle.must_node.specs.Partners.{needs as fact_needs}
-use Rattle.must_levels.specs.declared.fault.TreeFault.{TreeFault}
-use Rattle.must_levels.specs.declared.fault.TreeFault.TheVariants as fault
-use Rattle.must_levels.specs.Producing.{AreReady, AreWhole, AreRankLists, batches_in}
-use Rattle.must_levels.specs.Sending.{IsMoved}
-use Rattle.must_levels.specs.Telling.{HasRow}
-use Rattle.must_levels.specs.Running.{IsShape, CanRun, NodeSettled, IsNodeAnswer, RanNode, TreeSettled, IsTreeAnswer}
+use Rattle.must_levels.specs.declared.fault.RunFault.{RunFault}
+use Rattle.must_levels.specs.declared.fault.RunFault.TheVariants as fault
+use Rattle.must_levels.specs.Readers.{AreRankLists, batches_in}
+use Rattle.must_levels.specs.Shape.{IsTree, IsLevels}
+use Rattle.must_levels.specs.Running.{CanRun, NodeSettled, IsNodeAnswer, RanNode, TreeSettled, IsTreeAnswer}
 use Rattle.must_levels.proofs.Moves.{range_stays}
 use Rattle.must_levels.proofs.RankLists.{whole_length, lists_lawful}
 use Rattle.must_levels.proofs.Rises.{rise_kept}
+use Rattle.must_levels.proofs.Shapes.{power_of_levels}
 
 -- ---- lists of one rank that rise and have the same needs are one
 
@@ -93,12 +93,12 @@ needs_same rank xs ys moved r s =
 
 -- ---- the answer
 
-tree_settled : {P : Type 0} (whole : P → P → List Batch → Type 0) (olds news : List P) (q : PortState) (closed : Closed) → q.range ≡ record { from = 0; to = length olds } → NodeSettled true whole olds news q (Some closed) → TreeSettled whole olds news closed
+tree_settled : {S : Type 0} (whole : ℕ → S → S → List Batch → Type 0) (olds news : List S) (q : PortState) (closed : Closed) → q.range ≡ record { from = 0; to = length olds } → NodeSettled true whole 0 olds news q (Some closed) → TreeSettled whole olds news closed
 tree_settled whole olds news q closed range s =
     let es = entries_of (batches_in s.lists) in
     let whole_range : RankRange = record { from = 0; to = length olds } in
     let all : inner true q.range es ≡ es = all_pass es in
-    let long = whole_length whole olds news s.lists s.all in
+    let long = whole_length whole 0 olds news s.lists s.all in
     let ranks : AreRankLists 0 s.lists = subst (λ n. AreRankLists n s.lists) (ap (λ (r : RankRange). r.from) range) s.lawful in
     let law : IsLawful whole_range (batches_in s.lists) = lists_lawful whole_range 0 s.lists (omega arith) (omega (arith, long)) ranks in
     let facts : Rearranges closed.facts (facts_of es) = subst (λ (l : List Entry). Rearranges closed.facts (facts_of l)) all s.facts in
@@ -111,10 +111,31 @@ tree_settled whole olds news q closed range s =
       needs = λ rank. needs_same rank (fact_needs closed.facts) (fact_needs (facts_of es)) (flat_mapped need_of facts) s.needs (subst (λ (l : List Waits). Rise (map (λ (n : Waits). n.place) l)) (sym (needs_told es)) law.needs);
     }
 
-tree_of_node : {P : Type 0} (whole : P → P → List Batch → Type 0) (failed : P → P → Type 0) (olds news : List P) (q : PortState) (r : Result Closed TreeFault) → q.range ≡ record { from = 0; to = length olds } → IsNodeAnswer true whole failed 0 olds news q r → IsTreeAnswer whole failed olds news r
+tree_of_node : {S : Type 0} (whole : ℕ → S → S → List Batch → Type 0) (failed : ℕ → S → S → StreamFault → Type 0) (olds news : List S) (q : PortState) (r : Result Closed RunFault) → q.range ≡ record { from = 0; to = length olds } → IsNodeAnswer true whole failed 0 olds news q r → IsTreeAnswer whole failed olds news r
 tree_of_node whole failed olds news q (Ok closed) range a = tree_settled whole olds news q closed range a
-tree_of_node whole failed olds news q (Err (fault.Rank rank)) range a = a
+tree_of_node whole failed olds news q (Err (fault.Stream rank f)) range a = a
 tree_of_node whole failed olds news q (Err fault.NoMemory) range a = tt
 
-pub tree_ran : {P : Type 0} (whole : P → P → List Batch → Type 0) (failed : P → P → Type 0) (olds news : List P) (p q : PortState) (r : Result Closed TreeFault) → p.range ≡ record { from = 0; to = length olds } → RanNode true whole failed 0 olds news p q r → IsTreeAnswer whole failed olds news r
-tree_ran whole failed olds news p q r range ran = tree_of_node whole failed olds news q r (range_stays p q ran.port.0 ∙ range) ran.answer
+pub tree_ran : {S : Type 0} (whole : ℕ → S → S → List Batch → Type 0) (failed : ℕ → S → S → StreamFault → Type 0) (since : S → S → Type 0) (olds news : List S) (p q : PortState) (r : Result Closed RunFault) → p.range ≡ record { from = 0; to = length olds } → RanNode true whole failed since 0 olds news p q r → IsTreeAnswer whole failed olds news r
+tree_ran whole failed since olds news p q r range ran = tree_of_node whole failed olds news q r (range_stays p q ran.port.0 ∙ range) ran.answer
+
+-- the root is on all parts, and its port is new
+pub can_root : {S : Type 0} (ready : S → Type 0) (i : SegId Global) (xs : List S) (levels fan_in : ℕ) (p : PortState) → IsTree (length xs) fan_in → IsLevels (length xs) fan_in levels → AllByRecursion ready xs → p.inbox ≡ i → p.sent ≡ [] → p.range ≡ record { from = 0; to = length xs } → CanRun ready (length xs) i 0 xs (levels - 1 + 1) fan_in p
+can_root ready i xs levels fan_in p tree is unread inbox fresh range =
+    let some = is.some in
+    let same : levels ≡ levels - 1 + 1 = omega (arith, some) in
+    record {
+      shape = record {
+        some = tree.0;
+        fits = subst (λ n. length xs ≤ fan_in ^ n) same is.covers;
+        small = omega arith;
+        limit = tree.1;
+        power = subst (λ n. fan_in ^ n ≤ 65536) same (power_of_levels (length xs) fan_in levels tree is);
+        least = tree.2;
+        most = tree.3;
+      };
+      unread = unread;
+      inbox_is = inbox;
+      fresh = fresh;
+      range = range ∙ ap (λ (n : ℕ). record { from = 0; to = n }) (let e : length xs ≡ 0 + length xs = omega arith in e);
+    }

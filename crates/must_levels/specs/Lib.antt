@@ -1,4 +1,4 @@
-pub mod Producing
+pub mod Readers
 pub mod Sending
 pub mod Telling
 pub mod Running

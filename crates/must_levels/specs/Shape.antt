@@ -1,5 +1,5 @@
 -- The shape of a tree (docs/THREADS.md, "The tree").
-use Rattle.std.specs.Prelude.{◌≡◌, ℕ, ◌+◌, ◌*◌, ◌^◌, ◌≤◌, min}
+use Rattle.std.specs.Prelude.{ℕ, ◌+◌, ◌*◌, ◌^◌, ◌≤◌, min}
 use Rattle.must_entry.specs.declared.range.RankRange.{RankRange}
 
 -- what a tree may be of: so many ranks, and so many children of a node

@@ -1,5 +1,5 @@
 -- What children hand up, and what nodes close with.
-use Rattle.std.specs.Prelude.{◌≡◌, ◌⊎◌, ◌↔◌, ℕ, zero, suc, ◌+◌, Bool, false, List, [], ◌∷◌, ◌++◌, length, Option, Some, None, Result, Ok, Err, IfOk}
+use Rattle.std.specs.Prelude.{◌≡◌, ◌⊎◌, ◌↔◌, ℕ, zero, suc, ◌+◌, false, List, [], ◌∷◌, ◌++◌, length, Option, Some, None, Result, Ok, Err}
 use Rattle.must_base.specs.Listing.{Has}
 use Rattle.must_find.specs.declared.finding.Finding.{Finding}
 use Rattle.must_find.specs.Rearranged.{Rearranges}
@@ -10,14 +10,14 @@ use Rattle.must_entry.specs.Entries.{entries_of}
 use Rattle.must_inbox.specs.States.{PortState}
 use Rattle.must_node.specs.declared.closed.Closed.{Closed}
 use Rattle.must_node.specs.declared.fact.Fact.{Fact}
-use Rattle.must_node.specs.Inner.{inner, outer}
+use Rattle.must_node.specs.Inner.{outer}
 use Rattle.must_node.specs.EntryRows.{IsRow}
 use Rattle.must_node.specs.Facts.{facts_of}
 use Rattle.must_node.specs.Levels.{Part, IsRowOfOne, all_facts}
 use Rattle.must_node.specs.TreeLaws.{Child, parts_of}
-use Rattle.must_levels.specs.declared.fault.TreeFault.{TreeFault}
-use Rattle.must_levels.specs.declared.fault.TreeFault.TheVariants as fault
-use Rattle.must_levels.specs.Producing.{batches_in, AreRankLists}
+use Rattle.must_levels.specs.declared.fault.RunFault.{RunFault}
+use Rattle.must_levels.specs.declared.fault.RunFault.TheVariants as fault
+use Rattle.must_levels.specs.Readers.{batches_in, AreRankLists}
 
 -- ---- results of nodes, where there may be none
 
@@ -39,17 +39,17 @@ pub record Adds (below : Option Closed) (entries : List Entry) (all : Option Clo
   pub rows : (f : Finding) → HasRow all f ↔ (HasRow below f ⊎ IsRow entries f)
   pub facts : facts_in all ≡ facts_in below ++ facts_of entries
 
-abbrev pub IsNoMemory : {X : Type 0} → Result X TreeFault → Type 0
+abbrev pub IsNoMemory : {X : Type 0} → Result X RunFault → Type 0
 IsNoMemory (Ok x) = Unit {0}
 IsNoMemory (Err e) = e ≡ fault.NoMemory
 
 -- the answer of a node, as that of a child
-abbrev pub as_child : Result Closed TreeFault → Result (Option Closed) TreeFault
+abbrev pub as_child : Result Closed RunFault → Result (Option Closed) RunFault
 as_child (Ok closed) = Ok (Some closed)
 as_child (Err e) = Err e
 
 -- the answer of two that ran beside each other: the first fault decides
-abbrev pub Together : (first second all : Result (Option Closed) TreeFault) → Type 0
+abbrev pub Together : (first second all : Result (Option Closed) RunFault) → Type 0
 Together (Err e) second all = all ≡ Err e
 Together (Ok a) (Err e) all = all ≡ Err e
 Together (Ok a) (Ok b) (Ok c) = AreBoth a b c

@@ -5,15 +5,15 @@ ghost use Rattle.std.specs.Prelude.{◌≡◌};
 use must_inbox::Port;
 use std::marker::{Model, PhantomData};
 
-/// A port beside producers of this type. The type is named since closures in a cycle of calls are only covered by the borrow checker
+/// A port beside parts of this type. The type is named since closures in a cycle of calls are only covered by the borrow checker
 /// where all that they capture by `&mut` is of the type parameter.
 #[derive(Drop)]
-pub(crate) struct Berth<P> {
+pub(crate) struct Berth<S> {
     pub port: Port,
-    of: PhantomData<P>,
+    of: PhantomData<S>,
 }
 
-impl<P> Model for Berth<P> {
+impl<S> Model for Berth<S> {
     ghost use Rattle.must_inbox.specs.States.{PortState};
 
     ghost Value = { PortState };
@@ -21,8 +21,8 @@ impl<P> Model for Berth<P> {
     ghost view = { λ a. a.port };
 }
 
-impl<P> Berth<P> {
-    pub fn new(port: Port) -> Berth<P>
+impl<S> Berth<S> {
+    pub fn new(port: Port) -> Berth<S>
         ensures { result ≡ port }
     {
         Berth {

@@ -1,43 +1,36 @@
-//! Why a run of a tree ends early.
+//! Why a run has no findings.
 
 ghost use Rattle.std.specs.Prelude.{◌≡◌};
-ghost use Rattle.must_levels.specs.Producing.{fault_of};
+ghost use Rattle.must_levels.specs.declared.fault.RunFault.TheVariants.{NoMemory as OutOfMemory};
+ghost use Rattle.must_levels.specs.Readers.{fault_at};
 
 use must_base::NoMemory;
+use must_format::StreamFault;
 
-/// Why a producer gives no batch and isn't at its end.
+/// Why the streams of a run have no report: the lowest rank that stops it and why, or want of memory.
 #[derive(Clone, Copy, Debug, PartialEq, Eq)]
-pub enum Stop {
-    /// It has a fault. The producer itself tells which.
-    Fault,
+pub enum RunFault {
+    /// The fault is never want of memory.
+    Stream { rank: u32, fault: StreamFault },
     NoMemory,
 }
 
-/// Why a tree gives no result.
-#[derive(Clone, Copy, Debug, PartialEq, Eq)]
-pub enum TreeFault {
-    /// The producer of this rank has a fault.
-    Rank { rank: u32 },
-    NoMemory,
-}
-
-impl From<NoMemory> for TreeFault {
-    ghost use Rattle.std.specs.Prelude.{◌≡◌};
-    ghost use Rattle.must_levels.specs.declared.fault.TreeFault.TheVariants.{NoMemory as OutOfMemory};
-
-    ghost from_gives = { λ _ e. e ≡ OutOfMemory };
-
-    fn from(_: NoMemory) -> TreeFault {
-        TreeFault::NoMemory
+impl RunFault {
+    /// The fault of a run, by the fault of a rank's stream.
+    pub fn at(rank: u32, fault: StreamFault) -> RunFault
+        ensures { result ≡ fault_at rank fault }
+    {
+        match fault {
+            StreamFault::NoMemory => RunFault::NoMemory,
+            _ => RunFault::Stream { rank, fault },
+        }
     }
 }
 
-/// The fault of a tree whose producer of this rank stops.
-pub(crate) fn fault_of(rank: u32, stop: Stop) -> TreeFault
-    ensures { result ≡ fault_of rank stop }
-{
-    match stop {
-        Stop::Fault => TreeFault::Rank { rank },
-        Stop::NoMemory => TreeFault::NoMemory,
+impl From<NoMemory> for RunFault {
+    ghost from_gives = { λ _ e. e ≡ OutOfMemory };
+
+    fn from(_: NoMemory) -> RunFault {
+        RunFault::NoMemory
     }
 }

@@ -1,13 +1,13 @@
-//! A child at level 0: it takes the batches of its producer, and pushes each.
+//! A child at level 0: it reads the batches of its rank, and pushes each.
 
-ghost use Rattle.std.specs.Prelude.{◌≡◌, [], ◌∷◌, ◌++◌, OnOk, IfErr};
+ghost use Rattle.std.specs.Prelude.{◌≡◌, ◌<◌, ◌≤◌, [], ◌∷◌, ◌++◌, OnOk, IfErr};
 ghost use Rattle.must_entry.specs.Lawful.{IsLawful};
-ghost use Rattle.must_levels.specs.Producing.{one_rank};
+ghost use Rattle.must_levels.specs.Readers.{one_rank};
 ghost use Rattle.must_levels.specs.Running.{Ran};
-ghost use Rattle.must_levels.specs.declared.fault.TreeFault.TheVariants.{NoMemory as OutOfMemory};
+ghost use Rattle.must_levels.specs.declared.fault.RunFault.TheVariants.{NoMemory as OutOfMemory};
 
-use crate::fault::{TreeFault, fault_of};
-use crate::producer::Producer;
+use crate::fault::RunFault;
+use crate::reader::RankReader;
 use crate::spot::Spot;
 use must_base::{Gate, NoMemory};
 use must_entry::Batch;
@@ -35,29 +35,32 @@ pub(crate) fn push_batch<G: Gate, R: Wait>(
     upper.push(rt, port, batch)
 }
 
-/// Runs the child of one rank.
-pub(crate) fn run_leaf<P: Producer, G: Gate, R: Wait>(
+/// Runs the child of one rank, of so many ranks.
+pub(crate) fn run_leaf<S, M: RankReader<S>, G: Gate, R: Wait>(
     rt: &R,
     alloc: Global,
+    size: u32,
     rank: u32,
     spot: Spot,
     gate: &G,
     upper: &Inbox,
-    part: &mut P,
+    part: &mut S,
     port: &mut Port,
-) -> Result<Option<Closed>, TreeFault>
-    requires ready { (P.rank part.old ≡ rank) × P.gave part.old part.old [] }
+) -> Result<Option<Closed>, RunFault>
+    requires within { (rank < size) × (size ≤ 1024) }
+    requires ready { M.ready part.old }
     requires inbox { port.old.inbox ≡ upper.now }
     requires fresh { port.old.sent ≡ [] }
     requires range { port.old.range ≡ one_rank rank }
-    ensures { Ran P.whole P.failed 0 rank (part.old ∷ []) (part.new ∷ []) port.old port.new result }
+    ensures { Ran (M.whole size) (M.failed size) M.since 0 rank (part.old ∷ []) (part.new ∷ []) port.old port.new result }
 {
+    let mut reader = M::new(alloc, rank, size)?;
     for _ in rt.forever() {
-        let given = part.next(alloc);
+        let given = reader.next(alloc, part);
         match given {
             Ok(None) => return Ok(None),
             Ok(Some(batch)) => push_batch(rt, spot, gate, upper, port, batch)?,
-            Err(stop) => return Err(fault_of(rank, stop)),
+            Err(fault) => return Err(RunFault::at(rank, fault)),
         }
     }
     unreachable!()

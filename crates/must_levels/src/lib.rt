@@ -1,6 +1,6 @@
 //! The tree of a run: nodes over its ranks, level by level, whose children run in threads of their own (docs/THREADS.md, "The tree").
 //!
-//! The leaves are producers, one for each rank, that give batches. Whatever the fan-in and however the threads run, the tree closes
+//! A leaf reads the batches of its rank from the part of that rank. Whatever the fan-in and however the threads run, the tree closes
 //! with the rows and the facts of all batches.
 //!
 //! # Cost
@@ -14,7 +14,7 @@ mod berth;
 mod fault;
 mod leaf;
 mod ports;
-mod producer;
+mod reader;
 mod results;
 mod run;
 mod shape;
@@ -24,7 +24,7 @@ mod taking;
 mod tests;
 mod tree;
 
-pub use fault::{Stop, TreeFault};
-pub use producer::Producer;
+pub use fault::RunFault;
+pub use reader::RankReader;
 pub use run::run_tree;
 pub use shape::{levels, range};

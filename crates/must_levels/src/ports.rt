@@ -10,14 +10,14 @@ use must_inbox::{Inbox, MOST_PORTS, Taker};
 use std::alloc::Global;
 
 /// The ports for the ranks of `from` up to `to`, of which each has so many.
-pub(crate) fn make_ports<P>(
+pub(crate) fn make_ports<S>(
     alloc: Global,
     inbox: &Inbox,
     taker: &mut Taker,
     from: u32,
     to: u32,
     width: u32,
-) -> Result<Vec<Berth<P>>, NoMemory>
+) -> Result<Vec<Berth<S>>, NoMemory>
     requires inbox { taker.old.inbox ≡ inbox.now }
     requires fresh { (taker.old.ranges ≡ []) × (taker.old.joined ≡ []) × (taker.old.got ≡ []) }
     requires width { 0 < width }
@@ -44,7 +44,7 @@ pub(crate) fn make_ports<P>(
 }
 
 /// Joins all ports.
-pub(crate) fn join_ports<P>(inbox: &Inbox, taker: &mut Taker, ports: Vec<Berth<P>>)
+pub(crate) fn join_ports<S>(inbox: &Inbox, taker: &mut Taker, ports: Vec<Berth<S>>)
     requires { (taker.old.inbox ≡ inbox.now) × AreOfInbox inbox.now ports.items }
     ensures { taker.new ≡ record taker.old { joined = taker.old.joined ++ map closing_of ports.items } }
 {

@@ -9,11 +9,11 @@ ghost use Rattle.must_node.specs.Inner.{inner};
 ghost use Rattle.must_node.specs.Nodes.{StandsFor};
 ghost use Rattle.must_levels.specs.Telling.{AreBoth, Adds, IsNoMemory, Together, as_child};
 
-use crate::fault::TreeFault;
+use crate::fault::RunFault;
 use must_node::{Closed, Node};
 
 /// The rows and the facts of both.
-fn join_closed(first: Option<Closed>, second: Option<Closed>) -> Result<Option<Closed>, TreeFault>
+fn join_closed(first: Option<Closed>, second: Option<Closed>) -> Result<Option<Closed>, RunFault>
     ensures both { IfOk result (λ all. AreBoth first second all) }
     ensures err { IsNoMemory result }
 {
@@ -28,7 +28,7 @@ fn join_closed(first: Option<Closed>, second: Option<Closed>) -> Result<Option<C
 }
 
 /// Closes a node, and adds that to what its children closed with.
-pub(crate) fn add_node(below: Option<Closed>, node: Node) -> Result<Closed, TreeFault>
+pub(crate) fn add_node(below: Option<Closed>, node: Node) -> Result<Closed, RunFault>
     ensures adds { (range : RankRange) (root : Bool) (taken handed : List Batch) → StandsFor node range root taken handed → IsLawful range taken → IfOk result (λ all. Adds below (inner root range (entries_of taken)) (Some all)) }
     ensures err { IsNoMemory result }
 {
@@ -41,7 +41,7 @@ pub(crate) fn add_node(below: Option<Closed>, node: Node) -> Result<Closed, Tree
 }
 
 /// The answer of a node, as that of a child.
-pub(crate) fn as_child(answer: Result<Closed, TreeFault>) -> Result<Option<Closed>, TreeFault>
+pub(crate) fn as_child(answer: Result<Closed, RunFault>) -> Result<Option<Closed>, RunFault>
     ensures { result ≡ as_child answer }
 {
     match answer {
@@ -52,9 +52,9 @@ pub(crate) fn as_child(answer: Result<Closed, TreeFault>) -> Result<Option<Close
 
 /// The answer of two that ran beside each other: the first fault decides, and without a fault it is what both closed with.
 pub(crate) fn join_results(
-    first: Result<Option<Closed>, TreeFault>,
-    second: Result<Option<Closed>, TreeFault>,
-) -> Result<Option<Closed>, TreeFault>
+    first: Result<Option<Closed>, RunFault>,
+    second: Result<Option<Closed>, RunFault>,
+) -> Result<Option<Closed>, RunFault>
     ensures { Together first second result }
 {
     match first {

@@ -10,7 +10,7 @@ ghost use Rattle.must_levels.specs.Sending.{IsMoved, AreOfInbox, closing_of};
 ghost use Rattle.must_levels.specs.Telling.{IsNoMemory};
 
 use crate::berth::Berth;
-use crate::fault::TreeFault;
+use crate::fault::RunFault;
 use crate::leaf::push_batch;
 use crate::ports::join_ports;
 use crate::results::add_node;
@@ -136,7 +136,7 @@ fn take_rest<G: Gate, R: Wait>(
 }
 
 /// Ends a node whose children have ended: joins their ports, takes the rest, and closes. `below` is what they closed with.
-pub(crate) fn finish_node<P, G: Gate, R: Wait>(
+pub(crate) fn finish_node<S, G: Gate, R: Wait>(
     rt: &R,
     root: bool,
     spot: Spot,
@@ -144,11 +144,11 @@ pub(crate) fn finish_node<P, G: Gate, R: Wait>(
     upper: &Inbox,
     inbox: &Inbox,
     taker: Taker,
-    ports: Vec<Berth<P>>,
+    ports: Vec<Berth<S>>,
     node: Node,
     port: &mut Port,
     below: Option<Closed>,
-) -> Result<Closed, TreeFault>
+) -> Result<Closed, RunFault>
     requires take { CanTake root inbox.now upper.now taker node port.old }
     requires ports { AreOfInbox inbox.now ports.items }
     ensures port { IsMoved port.old port.new }

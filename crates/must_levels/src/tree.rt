@@ -5,10 +5,10 @@ ghost use Rattle.std.specs.Thread.{IsSync, IsSend};
 ghost use Rattle.must_levels.specs.Running.{CanRun, CanRunAll, CanTake, HasTaken, Passed, Ran, RanAll, RanNode};
 
 use crate::berth::Berth;
-use crate::fault::TreeFault;
+use crate::fault::RunFault;
 use crate::leaf::run_leaf;
 use crate::ports::make_ports;
-use crate::producer::Producer;
+use crate::reader::RankReader;
 use crate::results::{as_child, join_results};
 use crate::spot::{Spot, spot_at};
 use crate::taking::{finish_node, take_some};
@@ -24,7 +24,7 @@ use std::thread::{Threads, join_mut};
 
 /// Runs one child of a node and all below it.
 #[cycle(tree)]
-fn run_child<P: Producer + Send, G: Gate + Sync, R: Threads + Wait + Sync>(
+fn run_child<S: Send, M: RankReader<S> + Send, G: Gate + Sync, R: Threads + Wait + Sync>(
     rt: &R,
     alloc: Global,
     size: u32,
@@ -33,17 +33,27 @@ fn run_child<P: Producer + Send, G: Gate + Sync, R: Threads + Wait + Sync>(
     fan_in: u32,
     gate: &G,
     upper: &Inbox,
-    parts: &mut [P],
+    parts: &mut [S],
     port: &mut Port,
-) -> Result<Option<Closed>, TreeFault>
-    requires { CanRun P.rank P.gave upper.now from parts.old level fan_in port.old }
-    ensures { Ran P.whole P.failed level from parts.old parts.new port.old port.new result }
+) -> Result<Option<Closed>, RunFault>
+    requires { CanRun M.ready size upper.now from parts.old level fan_in port.old }
+    ensures { Ran (M.whole size) (M.failed size) M.since level from parts.old parts.new port.old port.new result }
 {
     let spot = spot_at(size, fan_in, level, from);
     if level == 0 {
-        return run_leaf(rt, alloc, from, spot, gate, upper, &mut parts[0], port);
+        return run_leaf::<S, M, G, R>(
+            rt,
+            alloc,
+            size,
+            from,
+            spot,
+            gate,
+            upper,
+            &mut parts[0],
+            port,
+        );
     }
-    as_child(run_node(
+    as_child(run_node::<S, M, G, R>(
         rt,
         alloc,
         size,
@@ -62,7 +72,7 @@ fn run_child<P: Producer + Send, G: Gate + Sync, R: Threads + Wait + Sync>(
 // The first child and the rest are each run by a function that takes all numbers, so that the two closures of `run_both`
 // capture the same variables: the borrow checker covers them so alone.
 #[cycle(tree)]
-fn run_first<P: Producer + Send, G: Gate + Sync, R: Threads + Wait + Sync>(
+fn run_first<S: Send, M: RankReader<S> + Send, G: Gate + Sync, R: Threads + Wait + Sync>(
     rt: &R,
     alloc: Global,
     size: u32,
@@ -73,13 +83,13 @@ fn run_first<P: Producer + Send, G: Gate + Sync, R: Threads + Wait + Sync>(
     fan_in: u32,
     gate: &G,
     inbox: &Inbox,
-    mine: &mut [P],
-    berth: &mut Berth<P>,
-) -> Result<Option<Closed>, TreeFault>
-    requires { CanRun P.rank P.gave inbox.now from mine.old level fan_in berth.old }
-    ensures { Ran P.whole P.failed level from mine.old mine.new berth.old berth.new result }
+    mine: &mut [S],
+    berth: &mut Berth<S>,
+) -> Result<Option<Closed>, RunFault>
+    requires { CanRun M.ready size inbox.now from mine.old level fan_in berth.old }
+    ensures { Ran (M.whole size) (M.failed size) M.since level from mine.old mine.new berth.old berth.new result }
 {
-    run_child(
+    run_child::<S, M, G, R>(
         rt,
         alloc,
         size,
@@ -94,7 +104,7 @@ fn run_first<P: Producer + Send, G: Gate + Sync, R: Threads + Wait + Sync>(
 }
 
 #[cycle(tree)]
-fn run_rest<P: Producer + Send, G: Gate + Sync, R: Threads + Wait + Sync>(
+fn run_rest<S: Send, M: RankReader<S> + Send, G: Gate + Sync, R: Threads + Wait + Sync>(
     rt: &R,
     alloc: Global,
     size: u32,
@@ -105,20 +115,20 @@ fn run_rest<P: Producer + Send, G: Gate + Sync, R: Threads + Wait + Sync>(
     fan_in: u32,
     gate: &G,
     inbox: &Inbox,
-    rest: &mut [P],
-    others: &mut [Berth<P>],
-) -> Result<Option<Closed>, TreeFault>
-    requires { CanRunAll P.rank P.gave inbox.now next rest.old width level fan_in others.old }
-    ensures { RanAll P.whole P.failed level next rest.old rest.new others.old others.new result }
+    rest: &mut [S],
+    others: &mut [Berth<S>],
+) -> Result<Option<Closed>, RunFault>
+    requires { CanRunAll M.ready size inbox.now next rest.old width level fan_in others.old }
+    ensures { RanAll (M.whole size) (M.failed size) M.since level next rest.old rest.new others.old others.new result }
 {
-    run_children(
+    run_children::<S, M, G, R>(
         rt, alloc, size, next, width, level, fan_in, gate, inbox, rest, others,
     )
 }
 
 // Runs the children of a node, each with its port.
 #[cycle(tree)]
-fn run_children<P: Producer + Send, G: Gate + Sync, R: Threads + Wait + Sync>(
+fn run_children<S: Send, M: RankReader<S> + Send, G: Gate + Sync, R: Threads + Wait + Sync>(
     rt: &R,
     alloc: Global,
     size: u32,
@@ -128,18 +138,18 @@ fn run_children<P: Producer + Send, G: Gate + Sync, R: Threads + Wait + Sync>(
     fan_in: u32,
     gate: &G,
     inbox: &Inbox,
-    parts: &mut [P],
-    ports: &mut [Berth<P>],
-) -> Result<Option<Closed>, TreeFault>
-    requires { CanRunAll P.rank P.gave inbox.now from parts.old width level fan_in ports.old }
-    ensures { RanAll P.whole P.failed level from parts.old parts.new ports.old ports.new result }
+    parts: &mut [S],
+    ports: &mut [Berth<S>],
+) -> Result<Option<Closed>, RunFault>
+    requires { CanRunAll M.ready size inbox.now from parts.old width level fan_in ports.old }
+    ensures { RanAll (M.whole size) (M.failed size) M.since level from parts.old parts.new ports.old ports.new result }
 {
     let Some((port, others)) = ports.split_first_mut() else {
         return Ok(None);
     };
     let count = (width as usize).min(parts.len());
     let (mine, rest) = parts.split_at_mut(count);
-    run_both(
+    run_both::<S, M, G, R>(
         rt,
         alloc,
         size,
@@ -159,7 +169,7 @@ fn run_children<P: Producer + Send, G: Gate + Sync, R: Threads + Wait + Sync>(
 
 // Runs the first child beside the other children.
 #[cycle(tree)]
-fn run_both<P: Producer + Send, G: Gate + Sync, R: Threads + Wait + Sync>(
+fn run_both<S: Send, M: RankReader<S> + Send, G: Gate + Sync, R: Threads + Wait + Sync>(
     rt: &R,
     alloc: Global,
     size: u32,
@@ -169,32 +179,32 @@ fn run_both<P: Producer + Send, G: Gate + Sync, R: Threads + Wait + Sync>(
     fan_in: u32,
     gate: &G,
     inbox: &Inbox,
-    mine: &mut [P],
-    port: &mut Berth<P>,
+    mine: &mut [S],
+    port: &mut Berth<S>,
     next: u32,
-    rest: &mut [P],
-    others: &mut [Berth<P>],
-) -> Result<Option<Closed>, TreeFault>
+    rest: &mut [S],
+    others: &mut [Berth<S>],
+) -> Result<Option<Closed>, RunFault>
     requires next { next ≡ from + length mine.old }
-    requires mine { CanRun P.rank P.gave inbox.now from mine.old level fan_in port.old }
-    requires rest { CanRunAll P.rank P.gave inbox.now next rest.old width level fan_in others.old }
-    ensures { RanAll P.whole P.failed level from (mine.old ++ rest.old) (mine.new ++ rest.new) (port.old ∷ others.old) (port.new ∷ others.new) result }
+    requires mine { CanRun M.ready size inbox.now from mine.old level fan_in port.old }
+    requires rest { CanRunAll M.ready size inbox.now next rest.old width level fan_in others.old }
+    ensures { RanAll (M.whole size) (M.failed size) M.since level from (mine.old ++ rest.old) (mine.new ++ rest.new) (port.old ∷ others.old) (port.new ∷ others.new) result }
 {
     let (first, second) = join_mut(
         rt,
-        &mut || -> Result<Option<Closed>, TreeFault>
-            requires { IsSync R.row × IsSync G.row × IsSend P.row × CanRun P.rank P.gave inbox.now from mine.now level fan_in port.now }
-            ensures { Ran P.whole P.failed level from mine.entry.now mine.exit.now port.entry.now port.exit.now result }
+        &mut || -> Result<Option<Closed>, RunFault>
+            requires { IsSync R.row × IsSync G.row × IsSend S.row × CanRun M.ready size inbox.now from mine.now level fan_in port.now }
+            ensures { Ran (M.whole size) (M.failed size) M.since level from mine.entry.now mine.exit.now port.entry.now port.exit.now result }
         {
-            run_first(
+            run_first::<S, M, G, R>(
                 rt, alloc, size, from, next, width, level, fan_in, gate, inbox, mine, port,
             )
         },
-        &mut || -> Result<Option<Closed>, TreeFault>
-            requires { IsSync R.row × IsSync G.row × IsSend P.row × CanRunAll P.rank P.gave inbox.now next rest.now width level fan_in others.now }
-            ensures { RanAll P.whole P.failed level next rest.entry.now rest.exit.now others.entry.now others.exit.now result }
+        &mut || -> Result<Option<Closed>, RunFault>
+            requires { IsSync R.row × IsSync G.row × IsSend S.row × CanRunAll M.ready size inbox.now next rest.now width level fan_in others.now }
+            ensures { RanAll (M.whole size) (M.failed size) M.since level next rest.entry.now rest.exit.now others.entry.now others.exit.now result }
         {
-            run_rest(
+            run_rest::<S, M, G, R>(
                 rt, alloc, size, from, next, width, level, fan_in, gate, inbox, rest, others,
             )
         },
@@ -204,7 +214,7 @@ fn run_both<P: Producer + Send, G: Gate + Sync, R: Threads + Wait + Sync>(
 
 // Runs the children, and says when they have ended.
 #[cycle(tree)]
-fn run_all<P: Producer + Send, G: Gate + Sync, R: Threads + Wait + Sync>(
+fn run_all<S: Send, M: RankReader<S> + Send, G: Gate + Sync, R: Threads + Wait + Sync>(
     rt: &R,
     alloc: Global,
     size: u32,
@@ -215,13 +225,13 @@ fn run_all<P: Producer + Send, G: Gate + Sync, R: Threads + Wait + Sync>(
     gate: &G,
     inbox: &Inbox,
     ended: &AtomicBool,
-    parts: &mut [P],
-    ports: &mut [Berth<P>],
-) -> Result<Option<Closed>, TreeFault>
-    requires { CanRunAll P.rank P.gave inbox.now from parts.old width level fan_in ports.old }
-    ensures { RanAll P.whole P.failed level from parts.old parts.new ports.old ports.new result }
+    parts: &mut [S],
+    ports: &mut [Berth<S>],
+) -> Result<Option<Closed>, RunFault>
+    requires { CanRunAll M.ready size inbox.now from parts.old width level fan_in ports.old }
+    ensures { RanAll (M.whole size) (M.failed size) M.since level from parts.old parts.new ports.old ports.new result }
 {
-    let ran = run_children(
+    let ran = run_children::<S, M, G, R>(
         rt, alloc, size, from, width, level, fan_in, gate, inbox, parts, ports,
     );
     ended.store(true, Ordering::SeqCst);
@@ -230,7 +240,7 @@ fn run_all<P: Producer + Send, G: Gate + Sync, R: Threads + Wait + Sync>(
 
 // Runs the children beside the node that takes what they push.
 #[cycle(tree)]
-fn run_beside<P: Producer + Send, G: Gate + Sync, R: Threads + Wait + Sync>(
+fn run_beside<S: Send, M: RankReader<S> + Send, G: Gate + Sync, R: Threads + Wait + Sync>(
     rt: &R,
     alloc: Global,
     size: u32,
@@ -244,25 +254,25 @@ fn run_beside<P: Producer + Send, G: Gate + Sync, R: Threads + Wait + Sync>(
     upper: &Inbox,
     inbox: &Inbox,
     ended: &AtomicBool,
-    parts: &mut [P],
-    ports: &mut [Berth<P>],
+    parts: &mut [S],
+    ports: &mut [Berth<S>],
     taker: &mut Taker,
     node: &mut Node,
     port: &mut Port,
-) -> (Result<Option<Closed>, TreeFault>, Result<(), NoMemory>)
-    requires run { CanRunAll P.rank P.gave inbox.now from parts.old width level fan_in ports.old }
+) -> (Result<Option<Closed>, RunFault>, Result<(), NoMemory>)
+    requires run { CanRunAll M.ready size inbox.now from parts.old width level fan_in ports.old }
     requires take { CanTake root inbox.now upper.now taker.old node.old port.old }
-    ensures ran { RanAll P.whole P.failed level from parts.old parts.new ports.old ports.new result.0 }
+    ensures ran { RanAll (M.whole size) (M.failed size) M.since level from parts.old parts.new ports.old ports.new result.0 }
     ensures taken { HasTaken taker.old taker.new port.old port.new }
     ensures passed { OnOk result.1 (Passed root taker.new node.new port.new) }
 {
     join_mut(
         rt,
-        &mut || -> Result<Option<Closed>, TreeFault>
-            requires { IsSync R.row × IsSync G.row × IsSend P.row × CanRunAll P.rank P.gave inbox.now from parts.now width level fan_in ports.now }
-            ensures { RanAll P.whole P.failed level from parts.entry.now parts.exit.now ports.entry.now ports.exit.now result }
+        &mut || -> Result<Option<Closed>, RunFault>
+            requires { IsSync R.row × IsSync G.row × IsSend S.row × CanRunAll M.ready size inbox.now from parts.now width level fan_in ports.now }
+            ensures { RanAll (M.whole size) (M.failed size) M.since level from parts.entry.now parts.exit.now ports.entry.now ports.exit.now result }
         {
-            run_all(
+            run_all::<S, M, G, R>(
                 rt, alloc, size, from, width, level, fan_in, gate, inbox, ended, parts, ports,
             )
         },
@@ -275,7 +285,7 @@ fn run_beside<P: Producer + Send, G: Gate + Sync, R: Threads + Wait + Sync>(
 
 /// Runs a node, which stands at this place, and whose children are of this level. Into the inbox above a root nothing is pushed.
 #[cycle(tree)]
-pub(crate) fn run_node<P: Producer + Send, G: Gate + Sync, R: Threads + Wait + Sync>(
+pub(crate) fn run_node<S: Send, M: RankReader<S> + Send, G: Gate + Sync, R: Threads + Wait + Sync>(
     rt: &R,
     alloc: Global,
     size: u32,
@@ -286,11 +296,11 @@ pub(crate) fn run_node<P: Producer + Send, G: Gate + Sync, R: Threads + Wait + S
     fan_in: u32,
     gate: &G,
     upper: &Inbox,
-    parts: &mut [P],
+    parts: &mut [S],
     port: &mut Port,
-) -> Result<Closed, TreeFault>
-    requires { CanRun P.rank P.gave upper.now from parts.old (level + 1) fan_in port.old }
-    ensures { RanNode root P.whole P.failed from parts.old parts.new port.old port.new result }
+) -> Result<Closed, RunFault>
+    requires { CanRun M.ready size upper.now from parts.old (level + 1) fan_in port.old }
+    ensures { RanNode root (M.whole size) (M.failed size) M.since from parts.old parts.new port.old port.new result }
 {
     let to = from + parts.len() as u32;
     let width = fan_in.pow(level);
@@ -299,7 +309,7 @@ pub(crate) fn run_node<P: Producer + Send, G: Gate + Sync, R: Threads + Wait + S
     let mut node = Node::new(alloc, RankRange { from, to }, root)?;
     let hint = CachePadded::new(AtomicBool::new(false));
     let ended: &AtomicBool = &hint;
-    let (ran, taken) = run_beside(
+    let (ran, taken) = run_beside::<S, M, G, R>(
         rt,
         alloc,
         size,

@@ -1,5 +1,4 @@
 use Rattle.std.proofs.Common.{◌≡◌, ◌⊎◌, ◌+◌, ◌*◌, ◌≤◌, length, map}
-use Rattle.must_inbox.specs.States.{TakerState}
 use Rattle.must_levels.specs.Sending.{ArePorts, ArePlaced, range_of_port}
 use Rattle.must_levels.proofs.PortLists.{EndBy}
 use Rattle.must_levels.proofs.ports.make_ports.Given as goal

@@ -1,4 +1,4 @@
-use Rattle.std.proofs.Common.{◌≡◌, ◌≤◌, ◌<◌, ◌^◌, arith}
+use Rattle.std.proofs.Common.{arith}
 use Rattle.must_levels.proofs.Shapes.{power_at}
 use Rattle.must_levels.proofs.shape.range.Goals as goal
 

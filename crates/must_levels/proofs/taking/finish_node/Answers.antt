@@ -1,4 +1,4 @@
-use Rattle.std.proofs.Common.{◌≡◌, ap, ◌∙◌}
+use Rattle.std.proofs.Common.{ap, ◌∙◌}
 use Rattle.must_inbox.specs.States.{TakerState}
 use Rattle.must_inbox.specs.Children.{batches_of}
 use Rattle.must_levels.proofs.Moves.{finished}

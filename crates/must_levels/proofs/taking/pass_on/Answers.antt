@@ -1,5 +1,4 @@
-use Rattle.std.proofs.Common.{◌≡◌, ap, ◌∙◌, sym, subst, ◌++◌, ◌∷◌, [], List, refl}
-use Rattle.must_entry.specs.declared.batch.Batch.{Batch}
+use Rattle.std.proofs.Common.{ap, sym, subst, ◌++◌, ◌∷◌, []}
 use Rattle.must_entry.specs.declared.range.RankRange.{RankRange}
 use Rattle.must_entry.specs.Lawful.{IsLawful}
 use Rattle.must_inbox.specs.States.{PortState}

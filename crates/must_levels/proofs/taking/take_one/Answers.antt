@@ -1,4 +1,4 @@
-use Rattle.std.proofs.Common.{◌≡◌, ap, ◌∙◌, sym, subst, ◌++◌, ◌∷◌, [], List, refl}
+use Rattle.std.proofs.Common.{◌++◌, ◌∷◌, []}
 use Rattle.must_inbox.specs.Children.{batches_of}
 use Rattle.must_levels.proofs.Moves.{none_taken, one_taken, taken_lawful, passed_on, got_more}
 use Rattle.must_levels.proofs.taking.take_one.Goals as goal
