@@ -1,0 +1,4 @@
+pub mod Weights
+pub mod Steps
+pub mod Calls
+pub mod Rounds
